@@ -9,12 +9,12 @@ use native.Mathlib.Numerals.{one-add}
 use lib.Dec.{T, eqb, ltb}
 use lib.Arith.{digits-lt, lt-one}
 use lib.Pow.{pow-pos, pow-lt, shr-lt, split}
-use lib.Bits.{bitAnd, and-le-l}
+use lib.Bits.{bitAnd, bitOr, and-le-l, or-lt}
 use borrow.Author.Tests.{lt-ltb, le-ltb}
-use Rattle.squares.specs.Tests.{_and_}
+use Rattle.squares.specs.Tests.{_and_, _or_}
 use Rattle.squares.specs.Squares.{odd, has, flag, upTo, setOf, only}
 use Rattle.squares.proofs.Testing.{order}
-use Rattle.squares.proofs.Digits.{has-and, has-zero, has-above, has-below, has-cat-low, has-cat-high, has-single}
+use Rattle.squares.proofs.Digits.{has-and, has-or, has-zero, has-above, has-below, has-cat-low, has-cat-high, has-single}
 
 pub flag-lt : (t : Bool) → flag t < 2
 flag-lt true = le-refl 2
@@ -128,3 +128,14 @@ only-is {k} h = sym (is-upTo 64 (2 ^ k) (λ j. eqb j k) (pow-lt h) (λ j l. has-
 -- no square passes
 pub setOf-none : (p : ℕ → Bool) → ((k : ℕ) → k < 64 → p k ≡ false) → 0 ≡ setOf p
 setOf-none p h = sym (upTo-cong 64 p (λ k. false) h ∙ upTo-none 64)
+
+-- `a & b` and `a | b` of sets of squares
+pub and-setOf : (p q : ℕ → Bool) → bitAnd (setOf p) (setOf q) ≡ setOf (λ k. p k and q k)
+and-setOf p q =
+    is-upTo 64 (bitAnd (setOf p) (setOf q)) (λ k. p k and q k) (lt-of-le-of-lt (and-le-l (setOf p) (setOf q)) (upTo-lt 64 p))
+    (λ k l. has-and (setOf p) (setOf q) k ∙ ap₂ _and_ (has-setOf p k l) (has-setOf q k l))
+
+pub or-setOf : (p q : ℕ → Bool) → bitOr (setOf p) (setOf q) ≡ setOf (λ k. p k or q k)
+or-setOf p q =
+    is-upTo 64 (bitOr (setOf p) (setOf q)) (λ k. p k or q k) (or-lt 64 (setOf p) (setOf q) (upTo-lt 64 p) (upTo-lt 64 q))
+    (λ k l. has-or (setOf p) (setOf q) k ∙ ap₂ _or_ (has-setOf p k l) (has-setOf q k l))

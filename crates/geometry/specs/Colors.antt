@@ -1,0 +1,40 @@
+-- The colours, and the board as each of them sees it.
+use mathlib.Core.Bool.{Bool, true, false}
+use Prim.Native.Nat.{ℕ, _+_, _-_}
+use Rattle.squares.specs.Squares.{rank, overOne, underOne}
+use Rattle.geometry.specs.declared.Color.{Color}
+use Rattle.geometry.specs.declared.Color.the-variants.{White, Black}
+
+-- the other colour
+abbrev pub opp : Color → Color
+opp White = Black
+opp Black = White
+
+abbrev pub isWhite : Color → Bool
+isWhite White = true
+isWhite Black = false
+
+-- a rank as the colour c counts it: its home rank is 0, its last rank 7
+abbrev pub rankFor : Color → ℕ → ℕ
+rankFor White k = rank k
+rankFor Black k = 7 - rank k
+
+-- the square of c's home rank on the file f
+abbrev pub homeSquare : Color → ℕ → ℕ
+homeSquare White f = f
+homeSquare Black f = 56 + f
+
+-- the square one rank nearer to c's home
+abbrev pub behind : Color → ℕ → ℕ
+behind White k = k - 8
+behind Black k = k + 8
+
+-- a member of s stands one rank behind k, as c sees it
+abbrev pub aheadOfOne : Color → ℕ → ℕ → Bool
+aheadOfOne White s k = overOne s k
+aheadOfOne Black s k = underOne s k
+
+-- the number of c's second rank
+abbrev pub secondRank : Color → ℕ
+secondRank White = 1
+secondRank Black = 6

@@ -1,0 +1,3 @@
+pub mod Colors
+pub mod Lines
+pub mod Steps

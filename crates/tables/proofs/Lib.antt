@@ -1,0 +1,4 @@
+pub mod Entries
+pub mod BetweenRule
+pub mod Paths
+pub mod Pawns

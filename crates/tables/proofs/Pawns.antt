@@ -1,0 +1,54 @@
+-- The steps of pawns by masks and shifts, computed at each square: one law over the colour for each.
+use mathlib.Core.Path.{_≡_, refl, ap, _∙_}
+use mathlib.Core.Bool.{true}
+use Prim.Native.Nat.{ℕ, _<_}
+use lib.Dec.{eqb}
+use lib.Bits.{bitAnd, bitOr}
+use borrow.Author.Tests.{eqb-true}
+use Rattle.squares.specs.Tests.{_and_, _or_}
+use Rattle.squares.specs.Squares.{rank, has, upTo, setOf, only, allTo, everySquare, leftOfOne, rightOfOne}
+use Rattle.geometry.specs.declared.Color.{Color}
+use Rattle.geometry.specs.declared.Color.the-variants.{White, Black}
+use Rattle.geometry.specs.Colors.{aheadOfOne, secondRank}
+use Rattle.geometry.specs.Steps.{pawnStep, pawnDouble, pawnTakes}
+use Rattle.squares.proofs.Comprehension.{and-setOf, or-setOf}
+use Rattle.squares.proofs.Every.{all-at}
+
+-- two sets of a square agree at every square
+same-sets : (f g : ℕ → ℕ) → everySquare (λ k. eqb (f k) (g k)) ≡ true → (k : ℕ) → k < 64 → f k ≡ g k
+same-sets f g e k h = eqb-true (f k) (g k) (all-at 64 (λ j. eqb (f j) (g j)) e k h)
+
+pub step-is : (c : Color) (sq : ℕ) → sq < 64 → setOf (aheadOfOne c (only sq)) ≡ setOf (pawnStep c sq)
+unfolding allTo upTo has pawnStep _and_ _or_
+step-is White = same-sets (λ sq. setOf (aheadOfOne White (only sq))) (λ sq. setOf (pawnStep White sq)) refl
+step-is Black = same-sets (λ sq. setOf (aheadOfOne Black (only sq))) (λ sq. setOf (pawnStep Black sq)) refl
+
+-- the square itself, where it stands on c's second rank
+starting : Color → ℕ → ℕ
+starting c sq = setOf (λ k. eqb k sq and eqb (rank k) (secondRank c))
+
+twice-is : (c : Color) (sq : ℕ) → sq < 64 → setOf (aheadOfOne c (setOf (aheadOfOne c (starting c sq)))) ≡ setOf (pawnDouble c sq)
+unfolding allTo upTo has pawnDouble starting _and_ _or_
+twice-is White = same-sets (λ sq. setOf (aheadOfOne White (setOf (aheadOfOne White (starting White sq))))) (λ sq. setOf (pawnDouble White sq)) refl
+twice-is Black = same-sets (λ sq. setOf (aheadOfOne Black (setOf (aheadOfOne Black (starting Black sq))))) (λ sq. setOf (pawnDouble Black sq)) refl
+
+pub double-is : (c : Color) (sq : ℕ) → sq < 64
+    → setOf (aheadOfOne c (setOf (aheadOfOne c (bitAnd (only sq) (setOf (λ k. eqb (rank k) (secondRank c))))))) ≡ setOf (pawnDouble c sq)
+unfolding starting
+double-is c sq h =
+    ap (λ (s : ℕ). setOf (aheadOfOne c (setOf (aheadOfOne c s)))) (and-setOf (λ k. eqb k sq) (λ k. eqb (rank k) (secondRank c))) ∙ twice-is c sq h
+
+-- both squares beside the one ahead
+diagonally : Color → ℕ → ℕ
+diagonally c sq = let ahead = setOf (aheadOfOne c (only sq)) in setOf (λ k. leftOfOne ahead k or rightOfOne ahead k)
+
+beside-is : (c : Color) (sq : ℕ) → sq < 64 → diagonally c sq ≡ setOf (pawnTakes c sq)
+unfolding allTo upTo has pawnTakes diagonally _and_ _or_
+beside-is White = same-sets (diagonally White) (λ sq. setOf (pawnTakes White sq)) refl
+beside-is Black = same-sets (diagonally Black) (λ sq. setOf (pawnTakes Black sq)) refl
+
+pub attacks-are : (c : Color) (sq : ℕ) → sq < 64
+    → bitOr (setOf (leftOfOne (setOf (aheadOfOne c (only sq))))) (setOf (rightOfOne (setOf (aheadOfOne c (only sq))))) ≡ setOf (pawnTakes c sq)
+unfolding diagonally
+attacks-are c sq h =
+    or-setOf (leftOfOne (setOf (aheadOfOne c (only sq)))) (rightOfOne (setOf (aheadOfOne c (only sq)))) ∙ beside-is c sq h

@@ -1,0 +1,20 @@
+-- `tables::inner::get_queen_moves` meets its contract.
+use mathlib.Core.Path.{ap, _∙_}
+use mathlib.Core.Bool.{Bool}
+use Prim.Native.Nat.{ℕ}
+use borrow.Author.Needs.{needs}
+use Rattle.squares.specs.Squares.{setOf}
+use Rattle.geometry.specs.Lines.{free}
+use Rattle.geometry.specs.Steps.{reaches}
+use Rattle.tables.proofs.Paths.{queen-line}
+use Rattle.tables.proofs.inner.get_queen_moves.Statement.{statement}
+use Rattle.tables.proofs.inner.get_queen_moves.Tie as tie
+
+slides-requires : tie.Need-slides-requires
+slides-requires c κs = search needs
+
+returns : tie.Need-returns
+returns c = c .slides .ensures ∙ ap (λ (on : ℕ → ℕ → Bool). setOf (reaches on (free (c .before .args .occ)) (c .before .args .sq))) queen-line
+
+pub get-queen-moves-spec : {M : Type 1} → statement M
+get-queen-moves-spec = tie.close (tie.spec slides-requires returns)
