@@ -20,6 +20,10 @@ pub flag-lt : (t : Bool) → flag t < 2
 flag-lt true = le-refl 2
 flag-lt false = zero-lt-suc 1
 
+pub flag-back : (t : Bool) → eqb (flag t) 1 ≡ t
+flag-back true = refl
+flag-back false = refl
+
 pub upTo-lt : (n : ℕ) (p : ℕ → Bool) → upTo n p < 2 ^ n
 unfolding upTo
 upTo-lt zero p = zero-lt-suc zero

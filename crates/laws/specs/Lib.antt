@@ -1,0 +1,12 @@
+pub mod Men
+pub mod Attacks
+pub mod Souls
+pub mod Positions
+pub mod Retractions
+pub mod Acceptance
+pub mod Moves
+pub mod Unmaking
+pub mod Strictness
+pub mod StrictLists
+pub mod Boards
+pub mod Table

@@ -1,0 +1,64 @@
+-- A position: the men, the turn, the castling rights and the en passant state.
+use mathlib.Core.Bool.{Bool, true, false}
+use Prim.Native.Nat.{ℕ}
+use Rattle.geometry.specs.declared.Color.{Color}
+use Rattle.geometry.specs.declared.Color.the-variants.{White, Black}
+use Rattle.geometry.specs.Colors.{opp, homeSquare}
+use Rattle.laws.specs.declared.CastleRights.{CastleRights}
+use Rattle.laws.specs.declared.CastleRights.the-variants.{NoRights, KingSide, QueenSide, Both}
+use Rattle.laws.specs.declared.EnPassantFlag.{EnPassantFlag}
+use Rattle.laws.specs.Men.{Men}
+
+-- the king's side and the queen's side
+pub data Side : Type 0 where
+  short long : Side
+
+-- the right of a colour to castle on a side
+abbrev pub Rights : Type 0
+Rights = Color → Side → Bool
+
+abbrev pub holds : CastleRights → Side → Bool
+holds NoRights d = false
+holds KingSide short = true
+holds KingSide long = false
+holds QueenSide short = false
+holds QueenSide long = true
+holds Both d = true
+
+-- the rights that White's field and Black's say
+abbrev pub rightsOf : CastleRights → CastleRights → Rights
+rightsOf w b White d = holds w d
+rightsOf w b Black d = holds b d
+
+-- a field that says two given rights
+abbrev pub rightsFor : Bool → Bool → CastleRights
+rightsFor true true = Both
+rightsFor true false = KingSide
+rightsFor false true = QueenSide
+rightsFor false false = NoRights
+
+pub record Pos : Type 0 where
+  pub men : Men
+  pub turn : Color
+  pub rights : Rights
+  pub state : EnPassantFlag
+
+-- "The retractor is the side not to move"
+abbrev pub retractor : Pos → Color
+retractor p = opp (p .turn)
+
+-- castling: the king's home, the corner of a side, and where king and rook go
+abbrev pub kingHome : Color → ℕ
+kingHome c = homeSquare c 4
+
+abbrev pub corner : Color → Side → ℕ
+corner c short = homeSquare c 7
+corner c long = homeSquare c 0
+
+abbrev pub kingTo : Color → Side → ℕ
+kingTo c short = homeSquare c 6
+kingTo c long = homeSquare c 2
+
+abbrev pub rookTo : Color → Side → ℕ
+rookTo c short = homeSquare c 5
+rookTo c long = homeSquare c 3

@@ -1,0 +1,51 @@
+-- Demand 3: what a strict retraction is, by its past, and the test that decides it.
+use mathlib.Core.Path.{_≡_}
+use mathlib.Core.Bool.{Bool, true, false}
+use Prim.Native.Nat.{ℕ}
+use lib.Dec.{eqb}
+use Rattle.squares.specs.Tests.{_and_}
+use Rattle.geometry.specs.declared.Color.{Color}
+use Rattle.laws.specs.declared.EnPassantFlag.{EnPassantFlag}
+use Rattle.laws.specs.declared.EnPassantFlag.the-variants.{Any, Some, None}
+use Rattle.laws.specs.declared.ChessRetraction.{ChessRetraction}
+use Rattle.laws.specs.Souls.{soulsOk}
+use Rattle.laws.specs.Positions.{Pos, retractor}
+use Rattle.laws.specs.Acceptance.{accepted}
+use Rattle.laws.specs.Moves.{Way, stateAfter, replayed, safe, legal}
+use Rattle.laws.specs.Unmaking.{unmadeBy, wayBack, retractable}
+
+-- today's state, unless unknown, is the one after the move
+abbrev pub agrees : EnPassantFlag → EnPassantFlag → Bool
+agrees Any st = true
+agrees None Any = false
+agrees None None = true
+agrees None (Some q) = false
+agrees (Some q) Any = false
+agrees (Some q) None = false
+agrees (Some q) (Some q′) = eqb q q′
+
+-- "some accepted earlier board with souls at most 8 a side has that move as a legal one, and the move gives today's men, turn, castling
+-- rights and, unless unknown, today's en passant state": e is that board, p today's, k the kind promoted to
+pub record Gives (e p : Pos) (r : ChessRetraction) (k : ℕ) : Type 0 where
+  pub isAccepted : accepted e ≡ true
+  pub fewSouls : soulsOk (e .men) ≡ true
+  pub isLegal : legal e r k ≡ true
+  pub sameMen : replayed e r k .men ≡ p .men
+  pub sameTurn : replayed e r k .turn ≡ p .turn
+  pub sameRights : replayed e r k .rights ≡ p .rights
+  pub sameState : agrees (p .state) (replayed e r k .state) ≡ true
+
+abbrev pub Past : Pos → ChessRetraction → Type 0
+Past p r = (e : Pos) × (k : ℕ) × Gives e p r k
+
+-- the test: un-make succeeds (9 to 12), the un-made board is accepted and has few souls, castling is safe, and the state agrees
+abbrev pub strictBy : Way → Color → Pos → Pos → ChessRetraction → Bool
+strictBy w c e p r =
+    retractable w c e p r and accepted e and soulsOk (e .men) and safe (e .men) w c
+    and agrees (p .state) (stateAfter (e .men) (e .men (r .target)) (r .target) (r .source))
+
+abbrev pub strict : Pos → ChessRetraction → Bool
+strict p r =
+    let c = retractor p in
+    let w = wayBack c p r in
+    strictBy w c (unmadeBy w c p r) p r
