@@ -2,6 +2,8 @@ pub mod Cases
 pub mod Mans
 pub mod Facts
 pub mod Puts
+pub mod ManSets
+pub mod Cleaning
 pub mod Rights
 pub mod Numbers
 pub mod Retracting

@@ -64,6 +64,20 @@ colorsAt colors a = flag (has (colorSet colors White) a) + flag (has (colorSet c
 unfoldable pub menOk : List ℕ → List ℕ → Bool
 menOk pieces colors = everySquare (λ a. eqb (kindsAt pieces a) (colorsAt colors a) and leb (kindsAt pieces a) 1)
 
+-- the sets of given men: each has the squares of its men
+unfoldable pub kindSets : Men → List ℕ
+kindSets m =
+    setOf (λ a. isKind Pawn (m a)) ∷ setOf (λ a. isKind Knight (m a)) ∷ setOf (λ a. isKind Bishop (m a)) ∷ setOf (λ a. isKind Rook (m a))
+    ∷ setOf (λ a. isKind Queen (m a)) ∷ setOf (λ a. isKind King (m a)) ∷ []
+
+unfoldable pub colorSets : Men → List ℕ
+colorSets m = setOf (λ a. isOf White (m a)) ∷ setOf (λ a. isOf Black (m a)) ∷ []
+
+-- clean men: the arrays are the sets of the men that they show. It is what refusal 1 passing says of six sets and two
+pub record Clean (pieces colors : List ℕ) : Type 0 where
+  pub kinds : pieces ≡ kindSets (menAt pieces colors)
+  pub colours : colors ≡ colorSets (menAt pieces colors)
+
 pub record Board : Type 0 where
   pub pieces : List ℕ
   pub colors : List ℕ
@@ -95,15 +109,7 @@ freshOk b =
 abbrev pub acceptedBoard : Board → Bool
 acceptedBoard b = menOk (b .pieces) (b .colors) and accepted (posOf b) and freshOk b
 
--- the one board of a position: each set has the squares of its men, and 7 is worked out
-unfoldable pub kindSets : Men → List ℕ
-kindSets m =
-    setOf (λ a. isKind Pawn (m a)) ∷ setOf (λ a. isKind Knight (m a)) ∷ setOf (λ a. isKind Bishop (m a)) ∷ setOf (λ a. isKind Rook (m a))
-    ∷ setOf (λ a. isKind Queen (m a)) ∷ setOf (λ a. isKind King (m a)) ∷ []
-
-unfoldable pub colorSets : Men → List ℕ
-colorSets m = setOf (λ a. isOf White (m a)) ∷ setOf (λ a. isOf Black (m a)) ∷ []
-
+-- the one board of a position: its sets, and 7 worked out
 abbrev pub boardOf : Pos → Board
 boardOf p = record {
   pieces = kindSets (p .men);
