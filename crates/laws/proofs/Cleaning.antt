@@ -7,7 +7,6 @@ use native.Mathlib.Nat.{not-suc-le-zero, le-of-suc-le-suc}
 use lib.Dec.{eqb, leb}
 use lib.ListN.{length, getD}
 use lib.Seq.{ext-getD}
-use borrow.Author.Tests.{lt-ltb}
 use Rattle.squares.specs.Tests.{_and_}
 use Rattle.squares.specs.Squares.{has, flag, setOf}
 use Rattle.geometry.specs.declared.Color.{Color}
@@ -19,6 +18,7 @@ use Rattle.laws.specs.Boards.{kindSet, colorSet, kindBy, manBy, menAt, k
 use Rattle.squares.proofs.Testing.{agree, agree-eq}
 use Rattle.squares.proofs.Comprehension.{is-upTo}
 use Rattle.squares.proofs.Every.{all-at}
+use Rattle.laws.proofs.ManSets.{shown-at}
 use Rattle.laws.proofs.Cases.{implies, given, by-colors, by-kinds, every, by-cases}
 
 -- the eight tests of a square, by colour and by kind
@@ -35,7 +35,7 @@ byKind Queen p n l r q k = q
 byKind King p n l r q k = k
 
 -- 1 of a square, by its eight tests, and the man that they show
-abbrev okBy : (w b p n l r q k : Bool) → Bool
+abbrev pub okBy : (w b p n l r q k : Bool) → Bool
 okBy w b p n l r q k =
     eqb (flag p + flag n + flag l + flag r + flag q + flag k) (flag w + flag b) and leb (flag p + flag n + flag l + flag r + flag q + flag k) 1
 
@@ -67,8 +67,7 @@ module _ (pieces colors : List ℕ) (ok : menOk pieces colors ≡ true) (a : ℕ
   at-law f e = e _ _ _ _ _ _ _ _
 
   there : menAt pieces colors a ≡ at shown
-  unfolding menAt
-  there = rw (lt-ltb a 64 h, menAt)
+  there = shown-at pieces colors a h
 
   fine : at okBy ≡ true
   unfolding menOk

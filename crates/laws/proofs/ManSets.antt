@@ -4,7 +4,7 @@ use mathlib.Core.Bool.{Bool, true, false}
 use mathlib.Core.List.{List}
 use Prim.Native.Nat.{_^_, ℕ, _+_, _≤_, _<_}
 use lib.Dec.{eqb, leb, ltb}
-use borrow.Author.Tests.{ltb-true, ltb-false, le-ltb}
+use borrow.Author.Tests.{ltb-true, ltb-false, lt-ltb, le-ltb}
 use Rattle.squares.specs.Tests.{_and_}
 use Rattle.squares.specs.Squares.{has, flag}
 use Rattle.geometry.specs.declared.Color.{Color}
@@ -88,6 +88,13 @@ men-ok m = all-of 64 (λ a. eqb (kindsAt (kindSets m) a) (colorsAt (colorSets m)
 
         colours : colorsAt (colorSets m) a ≡ flag (isOf White (m a)) + flag (isOf Black (m a))
         colours = λ i. flag (of-colour m a h White i) + flag (of-colour m a h Black i)
+
+-- what stands on a square of the board
+pub shown-at : (pieces colors : List ℕ) (a : ℕ) → a < 64 → menAt pieces colors a
+    ≡ manBy (has (colorSet colors White) a) (has (colorSet colors Black) a)
+    (kindBy (has (kindSet pieces Pawn) a) (has (kindSet pieces Knight) a) (has (kindSet pieces Bishop) a) (has (kindSet pieces Rook) a) (has (kindSet pieces Queen) a))
+unfolding menAt
+shown-at pieces colors a h = rw (lt-ltb a 64 h, menAt)
 
 -- nothing stands on 64 and above
 pub men-on : (pieces colors : List ℕ) → OnBoard (menAt pieces colors)

@@ -1,12 +1,10 @@
 -- Facts of men, of kinds promoted to, and of the ways of moving.
 use mathlib.Core.Path.{_≡_, refl, sym, ap, _∙_, subst}
 use mathlib.Core.Bool.{Bool, true, false, not, cond, false≢true}
-use mathlib.Core.List.{List, [], _∷_}
 use Prim.Native.Nat.{ℕ, zero, suc, _≤_}
 use native.Mathlib.Nat.{not-suc-le-zero}
 use native.Mathlib.Omega.{arith}
 use lib.Dec.{eqb, leb}
-use lib.ListN.{getD}
 use borrow.Author.Tests.{eqb-true, eq-eqb, leb-true}
 use Rattle.squares.specs.Tests.{_and_}
 use Rattle.geometry.specs.declared.Color.{Color}
@@ -17,7 +15,7 @@ use Rattle.laws.specs.declared.Piece.{Piece}
 use Rattle.laws.specs.declared.Piece.the-variants.{Pawn, Knight, Bishop, Rook, Queen, King}
 use Rattle.laws.specs.declared.EnPassantFlag.{EnPassantFlag}
 use Rattle.laws.specs.declared.EnPassantFlag.the-variants.{Any, Some, None}
-use Rattle.laws.specs.Men.{Man, empty, man, kindNumber, numbered, colorPlace, manNumber, sameMan, isEmpty, isOf, isPawn}
+use Rattle.laws.specs.Men.{Man, empty, man, kindNumber, numbered, colorPlace, manNumber, manOf, sameMan, isEmpty, isOf, isPawn}
 use Rattle.laws.specs.Positions.{Side, short, long, kingHome, kingTo}
 use Rattle.laws.specs.Moves.{Way, plain, passant, castling, way, markOk, arriving, isNamed}
 use Rattle.laws.specs.Unmaking.{leaving, promotedTo}
@@ -27,14 +25,8 @@ pub opp-opp : (c : Color) → opp (opp c) ≡ c
 opp-opp White = refl
 opp-opp Black = refl
 
--- the test of equal men: the men in the order of their numbers
-inOrder : List Man
-inOrder =
-    empty ∷ empty ∷ man White Pawn ∷ man Black Pawn ∷ man White Knight ∷ man Black Knight ∷ man White Bishop ∷ man Black Bishop
-    ∷ man White Rook ∷ man Black Rook ∷ man White Queen ∷ man Black Queen ∷ man White King ∷ man Black King ∷ []
-
-by-number : (x : Man) → getD inOrder (manNumber x) empty ≡ x
-unfolding inOrder
+-- a man is told by its number
+pub by-number : (x : Man) → manOf (manNumber x) ≡ x
 by-number empty = refl
 by-number (man White Pawn) = refl
 by-number (man White Knight) = refl
@@ -51,7 +43,7 @@ by-number (man Black King) = refl
 
 pub same : (x y : Man) → sameMan x y ≡ true → x ≡ y
 same x y e =
-    sym (by-number x) ∙ ap (λ (n : ℕ). getD inOrder n empty) (eqb-true (manNumber x) (manNumber y) e) ∙ by-number y
+    sym (by-number x) ∙ ap (λ (n : ℕ). manOf n) (eqb-true (manNumber x) (manNumber y) e) ∙ by-number y
 
 pub same-self : (x y : Man) → x ≡ y → sameMan x y ≡ true
 same-self x y e = eq-eqb (manNumber x) (manNumber y) (ap (λ (z : Man). manNumber z) e)

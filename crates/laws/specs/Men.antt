@@ -1,7 +1,9 @@
 -- Men, and what stands on each square.
 use mathlib.Core.Bool.{Bool, true, false, cond}
+use mathlib.Core.List.{[], _∷_}
 use Prim.Native.Nat.{ℕ, zero, suc, _+_, _*_}
 use lib.Dec.{eqb}
+use lib.ListN.{getD}
 use Rattle.geometry.specs.declared.Color.{Color}
 use Rattle.geometry.specs.declared.Color.the-variants.{White, Black}
 use Rattle.laws.specs.declared.Piece.{Piece}
@@ -51,6 +53,12 @@ kindPlace King = 5
 abbrev pub manNumber : Man → ℕ
 manNumber empty = 0
 manNumber (man c k) = kindNumber k * 2 + colorPlace c
+
+-- the man with a number
+abbrev pub manOf : ℕ → Man
+manOf n =
+    getD (empty ∷ empty ∷ man White Pawn ∷ man Black Pawn ∷ man White Knight ∷ man Black Knight ∷ man White Bishop ∷ man Black Bishop
+    ∷ man White Rook ∷ man Black Rook ∷ man White Queen ∷ man Black Queen ∷ man White King ∷ man Black King ∷ []) n empty
 
 abbrev pub sameMan : Man → Man → Bool
 sameMan x y = eqb (manNumber x) (manNumber y)

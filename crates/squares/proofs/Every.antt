@@ -5,12 +5,12 @@ use mathlib.Core.Bool.{Bool, true, false, not}
 use Prim.Native.Nat.{ℕ, zero, suc, _^_, _<_}
 use native.Mathlib.Nat.{le-refl, le-trans, le-suc, le-of-suc-le-suc, not-suc-le-zero, eq-or-lt-of-le}
 use lib.Dec.{T, eqb}
-use lib.Bits.{bitAnd}
+use lib.Bits.{bitAnd, and-self}
 use borrow.Author.Tests.{eqb-true, eq-eqb, not-true}
 use Rattle.squares.specs.Tests.{_and_, _or_}
-use Rattle.squares.specs.Squares.{has, allTo, anyTo}
+use Rattle.squares.specs.Squares.{has, setOf, allTo, anyTo, everySquare, someSquare}
 use Rattle.squares.proofs.Testing.{both, left, right, either, or-left, or-right, agree, agree-eq}
-use Rattle.squares.proofs.Comprehension.{disjoint-at, disjoint}
+use Rattle.squares.proofs.Comprehension.{disjoint-at, disjoint, upTo-lt, has-setOf}
 
 pub all-at : (n : ℕ) (p : ℕ → Bool) → allTo n p ≡ true → (k : ℕ) → k < n → p k ≡ true
 unfolding allTo
@@ -64,6 +64,29 @@ pub any-none : (n : ℕ) → anyTo n (λ k. false) ≡ false
 unfolding anyTo _or_
 any-none zero = refl
 any-none (suc n) = any-none n
+
+-- a set is empty where no square passes the test, and has a member where one does
+pub none-test : (p : ℕ → Bool) → eqb (setOf p) 0 ≡ everySquare (λ a. not (p a))
+unfolding _and_
+none-test p =
+    ap (λ (s : ℕ). eqb s 0) (sym (and-self (setOf p))) ∙ meet-test 64 (setOf p) (setOf p) (upTo-lt 64 p)
+    ∙ all-cong 64 (λ a. not (has (setOf p) a and has (setOf p) a)) (λ a. not (p a)) (λ a l. ap not (twice (has (setOf p) a) ∙ has-setOf p a l))
+  where
+    twice : (t : Bool) → (t and t) ≡ t
+    twice true = refl
+    twice false = refl
+
+pub not-all : (n : ℕ) (p : ℕ → Bool) → not (allTo n (λ a. not (p a))) ≡ anyTo n p
+unfolding allTo anyTo _and_ _or_
+not-all zero p = refl
+not-all (suc n) p = go (p n) (not-all n p)
+  where
+    go : (t : Bool) → not (allTo n (λ a. not (p a))) ≡ anyTo n p → not (not t and allTo n (λ a. not (p a))) ≡ (t or anyTo n p)
+    go true e = refl
+    go false e = e
+
+pub some-test : (p : ℕ → Bool) → not (eqb (setOf p) 0) ≡ someSquare p
+some-test p = ap not (none-test p) ∙ not-all 64 p
 
 -- a test computed at all squares, at all pairs and at all triples
 pub square-law : (p : ℕ → Bool) → allTo 64 p ≡ true → (k : ℕ) → k < 64 → p k ≡ true

@@ -1,0 +1,19 @@
+-- Sets of squares by what stands there.
+use mathlib.Core.Bool.{Bool, not}
+use mathlib.Core.List.{List}
+use Prim.Native.Nat.{ℕ}
+use lib.Dec.{eqb, leb}
+use Rattle.squares.specs.Tests.{_and_}
+use Rattle.squares.specs.Squares.{setOf}
+use Rattle.geometry.specs.declared.Color.{Color}
+use Rattle.laws.specs.declared.Piece.{Piece}
+use Rattle.laws.specs.Men.{man, Men, sameMan}
+use Rattle.laws.specs.Boards.{kindsAt, colorsAt}
+
+-- a square on which 1 MEN fails: not as many kinds as colours, or more than one
+unfoldable pub strange : List ℕ → List ℕ → ℕ → Bool
+strange pieces colors a = not (eqb (kindsAt pieces a) (colorsAt colors a) and leb (kindsAt pieces a) 1)
+
+-- the squares of the men of a colour and a kind
+unfoldable pub menOf : Men → Color → Piece → ℕ
+menOf m c k = setOf (λ a. sameMan (m a) (man c k))
