@@ -28,6 +28,10 @@ attacksFrom m c b a = isOf c (m a) and attacks m (m a) a b
 abbrev pub attacked : Men → Color → ℕ → Bool
 attacked m c b = someSquare (attacksFrom m c b)
 
+-- the squares of c's men that attack b
+unfoldable pub attackersOf : Men → Color → ℕ → ℕ
+attackersOf m c b = setOf (attacksFrom m c b)
+
 -- "Checkers: men of the retractor, its king left out, that attack the king of the side to move" (c)
 abbrev pub checks : Men → Color → ℕ → Bool
 checks m c k =

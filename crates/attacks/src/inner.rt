@@ -1,0 +1,57 @@
+// The attackers of a square (the Rust's `is_attacked`, as a set). `t` is the table of squares between, lent.
+use laws::Color;
+ghost use mathlib.Core.Path.{_≡_};
+ghost use Prim.Native.Nat.{_<_};
+ghost use Rattle.geometry.specs.Lines.{IsBetween};
+ghost use Rattle.laws.specs.Attacks.{attackersOf, attacked};
+ghost use Rattle.laws.specs.Boards.{menAt, Clean};
+ghost use Rattle.attacks.specs.Meeting.{metOf};
+
+// Each kind met with the squares that it attacks from.
+pub fn met(
+    pieces: [u64; 6],
+    own: u64,
+    pawn: u64,
+    knight: u64,
+    diagonal: u64,
+    straight: u64,
+    king: u64,
+) -> u64
+    ensures { λ r. ⌜ r ≡ metOf pieces own pawn knight diagonal straight king ⌝ }
+{
+    own
+        & (pieces[0] & pawn
+            | pieces[1] & knight
+            | (pieces[2] | pieces[4]) & diagonal
+            | (pieces[3] | pieces[4]) & straight
+            | pieces[5] & king)
+}
+
+// The men of a colour that attack a square.
+pub fn attackers(t: &[u64; 4096], pieces: [u64; 6], colors: [u64; 2], sq: u8, color: Color) -> u64
+    requires { ⌜ IsBetween (now t) × Clean pieces colors × (sq < 64) ⌝ }
+    ensures { λ r. ⌜ r ≡ attackersOf (menAt pieces colors) color sq ⌝ }
+{
+    let c = men::inner::color_place(color);
+    let occ = men::inner::occupied(pieces, colors);
+    let diagonal = tables::inner::get_bishop_moves(t, sq, occ);
+    let straight = tables::inner::get_rook_moves(t, sq, occ);
+    let pawn = tables::inner::get_pawn_attacks(geometry::other(color), sq);
+    let knight = tables::inner::get_knight_moves(sq);
+    let king = tables::inner::get_king_moves(sq);
+    met(pieces, colors[c], pawn, knight, diagonal, straight, king)
+}
+
+// Whether a man of a colour attacks a square.
+pub fn is_attacked(
+    t: &[u64; 4096],
+    pieces: [u64; 6],
+    colors: [u64; 2],
+    sq: u8,
+    color: Color,
+) -> bool
+    requires { ⌜ IsBetween (now t) × Clean pieces colors × (sq < 64) ⌝ }
+    ensures { λ r. ⌜ r ≡ attacked (menAt pieces colors) color sq ⌝ }
+{
+    attackers(t, pieces, colors, sq, color) != 0
+}
