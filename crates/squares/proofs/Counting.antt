@@ -83,3 +83,8 @@ count-none (suc n) p e k l =
     flag-none : (t : Bool) → flag t ≡ 0 → t ≡ false
     flag-none true h = absurd (lt-irrefl 0 (subst (λ (x : ℕ). 0 < x) h (le-refl 1)))
     flag-none false h = refl
+
+pub count-empty : (n : ℕ) (p : ℕ → Bool) → ((k : ℕ) → k < n → p k ≡ false) → countTo n p ≡ 0
+unfolding countTo
+count-empty zero p h = refl
+count-empty (suc n) p h = ap₂ (λ (t : Bool) (r : ℕ). flag t + r) (h n (le-refl (suc n))) (count-empty n p (λ k l. h k (le-trans l (le-suc n))))

@@ -6,3 +6,5 @@ pub mod Counting
 pub mod LeastMember
 pub mod Collect
 pub mod Shifts
+pub mod Singles
+pub mod Unions

@@ -67,6 +67,10 @@ everySquare p = allTo 64 p
 abbrev pub someSquare : (ℕ → Bool) → Bool
 someSquare p = anyTo 64 p
 
+-- the square k passes the test of some member of s
+unfoldable pub united : (ℕ → ℕ → Bool) → ℕ → ℕ → Bool
+united f s k = someSquare (λ a. has s a and f a k)
+
 -- k is the least member of s
 pub record Least (s k : ℕ) : Type 0 where
   pub member : has s k ≡ true

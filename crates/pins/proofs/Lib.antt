@@ -1,0 +1,2 @@
+pub mod OneKing
+pub mod Aloneness
