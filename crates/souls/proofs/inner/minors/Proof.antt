@@ -1,0 +1,46 @@
+-- `souls::inner::minors` meets its contract.
+use native.Mathlib.Omega.{arith}
+use borrow.Author.Needs.{needs}
+use Rattle.laws.specs.Boards.{menAt}
+use Rattle.souls.specs.Parts.{minorsOf}
+use Rattle.souls.proofs.Counted.{light-is, dark-is}
+use Rattle.souls.proofs.inner.minors.Statement.{statement}
+use Rattle.souls.proofs.inner.minors.Tie as tie
+
+surplus-requires : tie.Need-surplus-requires
+surplus-requires c κs = search needs
+
+bishops-on-requires : tie.Need-bishops-on-requires
+bishops-on-requires c κs = search needs
+
+bishops-on-requires-2 : tie.Need-bishops-on-requires-2
+bishops-on-requires-2 c κs = search needs
+
+above-requires : tie.Need-above-requires
+above-requires c κs = search needs
+
+add-result : tie.Need-add-result
+add-result c = search needs
+
+above-requires-2 : tie.Need-above-requires-2
+above-requires-2 c κs = search needs
+
+add-result-2 : tie.Need-add-result-2
+add-result-2 c = search needs
+
+returns : tie.Need-returns
+unfolding minorsOf
+returns c = (rw (c .before .before .before .before .surplus .ensures .0, c .before .above .ensures, c .above2 .ensures, c .before .before .before .bishops-on .ensures .0, c .before .before .bishops-on2 .ensures .0, light-is (menAt (c .before .before .before .before .before .args .pieces) (c .before .before .before .before .before .args .colors)) (c .before .before .before .before .before .args .color), dark-is (menAt (c .before .before .before .before .before .args .pieces) (c .before .before .before .before .before .args .colors)) (c .before .before .before .before .before .args .color)), omega arith)
+
+pub minors-spec : {M : Type 1} → statement M
+minors-spec =
+    tie.close
+    (tie.spec
+    surplus-requires
+    bishops-on-requires
+    bishops-on-requires-2
+    above-requires
+    add-result
+    above-requires-2
+    add-result-2
+    returns)
