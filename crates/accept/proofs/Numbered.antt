@@ -3,6 +3,7 @@ use mathlib.Core.Path.{_≡_, refl, sym, ap, ap₂, _∙_}
 use mathlib.Core.Bool.{Bool, true, false, not}
 use mathlib.Core.List.{List}
 use Prim.Native.Nat.{ℕ}
+use native.Mathlib.Omega.{arith}
 use lib.Dec.{eqb}
 use Rattle.squares.specs.Tests.{_and_}
 use Rattle.geometry.specs.declared.Color.{Color}
@@ -11,6 +12,7 @@ use Rattle.laws.specs.Men.{Men}
 use Rattle.laws.specs.Positions.{Rights}
 use Rattle.laws.specs.Acceptance.{kingsOk, pawnsOk, rightsOk, stateOk, quiet}
 use Rattle.laws.specs.Boards.{menAt, menOk}
+use Rattle.accept.specs.declared.Refusal.{Refusal}
 use Rattle.accept.specs.declared.Refusal.the-variants.{Men as men, Kings as kings, Check as check}
 use Rattle.accept.specs.declared.Verdict.{Verdict}
 use Rattle.accept.specs.declared.Verdict.the-variants.{Accepted, Refused}
@@ -90,3 +92,22 @@ module _ (pieces colors : List ℕ) (c : Color) (ρ : Rights) (st : EnPassantFla
     rights-pass = right _ _ (left _ _ all);
     state-pass = right _ _ all;
   }
+
+-- a chain of verdicts that accepts
+never : (r : Refusal) → Refused r ≡ Accepted → ⊥
+never r e = let z : _≡_ {A = ℕ} 0 1 = cc in omega arith
+
+pub both-accept : (v w : Verdict) → andThen v w ≡ Accepted → (v ≡ Accepted) × (w ≡ Accepted)
+both-accept Accepted w e = (refl, e)
+both-accept (Refused r) w e = absurd (never r e)
+
+pub test-passes : (ok : Bool) (r : Refusal) (v : Verdict) → unless ok r v ≡ Accepted → (ok ≡ true) × (v ≡ Accepted)
+test-passes true r v e = (refl, e)
+test-passes false r v e = absurd (never r e)
+
+pub judged-passes : (pieces colors : List ℕ) (c : Color) (ρ : Rights) (st : EnPassantFlag) → judgedOf pieces colors c ρ st ≡ Accepted
+    → Five pieces colors c ρ st × (quiet (menAt pieces colors) c ≡ true)
+unfolding judgedOf
+judged-passes pieces colors c ρ st h =
+    let v = both-accept (fiveOf pieces colors c ρ st) (unless (quiet (menAt pieces colors) c) check Accepted) h in
+    (five-passes pieces colors c ρ st (v .0), test-passes (quiet (menAt pieces colors) c) check Accepted (v .1) .0)

@@ -1,0 +1,97 @@
+-- What is known of a board that the gate lets pass: its men are clean, the position is accepted, and union, checkers and pins are the Laws'.
+use mathlib.Core.Path.{_≡_, refl}
+use mathlib.Core.Bool.{true}
+use mathlib.Core.List.{List}
+use Prim.Native.Nat.{ℕ, zero, suc, _/_}
+use lib.ListN.{length}
+use borrow.Author.Tests.{eqb-true}
+use Rattle.geometry.specs.declared.Color.{Color}
+use Rattle.geometry.specs.declared.Color.the-variants.{White, Black}
+use Rattle.laws.specs.declared.Piece.the-variants.{Pawn, Knight, Bishop, Rook, Queen, King}
+use Rattle.laws.specs.declared.EnPassantFlag.{EnPassantFlag}
+use Rattle.laws.specs.Men.{Man, empty, man, manNumber}
+use Rattle.laws.specs.Attacks.{unionOf, checkersOf, pinsOf}
+use Rattle.laws.specs.Positions.{Rights, rightsOf}
+use Rattle.laws.specs.Acceptance.{kingsOk, quiet, accepted}
+use Rattle.laws.specs.Boards.{menAt, menOk, Clean}
+use Rattle.accept.specs.declared.Refusal.the-variants.{Stale}
+use Rattle.accept.specs.declared.Verdict.the-variants.{Accepted}
+use Rattle.accept.specs.Verdicts.{unless, judgedOf}
+use Rattle.board.specs.declared.RetractableBoard.{RetractableBoard}
+use Rattle.board.specs.declared.PieceOn.the-variants.{Kind}
+use Rattle.board.specs.Gate.{menOn, posOn, freshBy, gateBy, gateOf}
+use Rattle.board.specs.Answers.{kindOn, pieceNumbered}
+use Rattle.squares.proofs.Testing.{both, left, right}
+use Rattle.laws.proofs.Cleaning.{Bounded, clean}
+use Rattle.accept.proofs.Numbered.{Five, both-accept, test-passes, judged-passes}
+
+-- arrays that pass 1 to 6
+pub judged-clean : (pieces colors : List ℕ) (c : Color) (ρ : Rights) (st : EnPassantFlag) → length pieces ≡ 6 → length colors ≡ 2 → Bounded pieces → Bounded colors
+    → judgedOf pieces colors c ρ st ≡ Accepted → Clean pieces colors × (kingsOk (menAt pieces colors) ≡ true)
+judged-clean pieces colors c ρ st six two bp bc h =
+    let f = judged-passes pieces colors c ρ st h .0 in
+    (clean pieces colors six two bp bc (f .men-pass), f .kings-pass)
+
+-- a board that passes 1 to 7
+pub gate-judged : (b : RetractableBoard) → gateOf b ≡ Accepted → judgedOf (b .pieces) (b .colors) (b .turn) (rightsOf (b .white) (b .black)) (b .passant) ≡ Accepted
+unfolding gateBy
+gate-judged b h =
+    both-accept (judgedOf (b .pieces) (b .colors) (b .turn) (rightsOf (b .white) (b .black)) (b .passant))
+    (unless (freshBy (menOn b) (b .turn) (b .combined) (b .checkers) (b .pinned)) Stale Accepted) h .0
+
+pub record Passed (b : RetractableBoard) : Type 0 where
+  pub men-agree : menOk (b .pieces) (b .colors) ≡ true
+  pub lawful : accepted (posOn b) ≡ true
+  pub union-is : b .combined ≡ unionOf (menOn b)
+  pub checkers-are : b .checkers ≡ checkersOf (menOn b) (b .turn)
+  pub pins-are : b .pinned ≡ pinsOf (menOn b) (b .turn)
+
+pub gate-passed : (b : RetractableBoard) → gateOf b ≡ Accepted → Passed b
+unfolding gateBy freshBy
+gate-passed b h = record {
+  men-agree = five .men-pass;
+  lawful = both (both (both (both (five .kings-pass) (five .pawns-pass)) (five .rights-pass)) (five .state-pass)) (j .1);
+  union-is = eqb-true _ _ (left _ _ (left _ _ fresh));
+  checkers-are = eqb-true _ _ (right _ _ (left _ _ fresh));
+  pins-are = eqb-true _ _ (right _ _ fresh);
+}
+  where
+    j : Five (b .pieces) (b .colors) (b .turn) (rightsOf (b .white) (b .black)) (b .passant) × (quiet (menOn b) (b .turn) ≡ true)
+    j = judged-passes (b .pieces) (b .colors) (b .turn) (rightsOf (b .white) (b .black)) (b .passant) (gate-judged b h)
+
+    five : Five (b .pieces) (b .colors) (b .turn) (rightsOf (b .white) (b .black)) (b .passant)
+    five = j .0
+
+    fresh : freshBy (menOn b) (b .turn) (b .combined) (b .checkers) (b .pinned) ≡ true
+    fresh =
+        test-passes (freshBy (menOn b) (b .turn) (b .combined) (b .checkers) (b .pinned)) Stale Accepted
+        (both-accept (judgedOf (b .pieces) (b .colors) (b .turn) (rightsOf (b .white) (b .black)) (b .passant))
+        (unless (freshBy (menOn b) (b .turn) (b .combined) (b .checkers) (b .pinned)) Stale Accepted) h .1) .0
+
+-- the kind by the number of the man
+pub kind-told : (x : Man) → pieceNumbered (manNumber x / 2) ≡ kindOn x
+unfolding pieceNumbered
+kind-told empty = refl
+kind-told (man White Pawn) = refl
+kind-told (man White Knight) = refl
+kind-told (man White Bishop) = refl
+kind-told (man White Rook) = refl
+kind-told (man White Queen) = refl
+kind-told (man White King) = refl
+kind-told (man Black Pawn) = refl
+kind-told (man Black Knight) = refl
+kind-told (man Black Bishop) = refl
+kind-told (man Black Rook) = refl
+kind-told (man Black Queen) = refl
+kind-told (man Black King) = refl
+
+-- a number above 5 is a king's
+pub king-numbered : (k : ℕ) → (k ≡ 0 → ⊥) → (k ≡ 1 → ⊥) → (k ≡ 2 → ⊥) → (k ≡ 3 → ⊥) → (k ≡ 4 → ⊥) → (k ≡ 5 → ⊥) → Kind King ≡ pieceNumbered k
+unfolding pieceNumbered
+king-numbered zero a b c d e f = absurd (a refl)
+king-numbered (suc zero) a b c d e f = absurd (b refl)
+king-numbered (suc (suc zero)) a b c d e f = absurd (c refl)
+king-numbered (suc (suc (suc zero))) a b c d e f = absurd (d refl)
+king-numbered (suc (suc (suc (suc zero)))) a b c d e f = absurd (e refl)
+king-numbered (suc (suc (suc (suc (suc zero))))) a b c d e f = absurd (f refl)
+king-numbered (suc (suc (suc (suc (suc (suc k)))))) a b c d e f = refl

@@ -1,0 +1,108 @@
+-- What each method answers.
+use mathlib.Core.Bool.{Bool, true, false, cond}
+use mathlib.Core.List.{List}
+use Prim.Native.Nat.{ℕ, zero, suc}
+use lib.Dec.{ltb}
+use Rattle.geometry.specs.declared.Color.{Color}
+use Rattle.laws.specs.declared.Piece.the-variants.{Pawn, Knight, Bishop, Rook, Queen, King}
+use Rattle.laws.specs.declared.CastleRights.{CastleRights}
+use Rattle.laws.specs.declared.EnPassantFlag.{EnPassantFlag}
+use Rattle.laws.specs.declared.EnPassantFlag.the-variants.{Any, Some, None}
+use Rattle.laws.specs.Men.{Man, empty, man, Men}
+use Rattle.laws.specs.Attacks.{attacked, unionOf, checkersOf, pinsOf}
+use Rattle.laws.specs.Positions.{rightsOf}
+use Rattle.laws.specs.Acceptance.{stateOk}
+use Rattle.laws.specs.Boards.{menAt}
+use Rattle.accept.specs.declared.Refusal.the-variants.{Source, Passant}
+use Rattle.accept.specs.declared.Verdict.{Verdict}
+use Rattle.accept.specs.declared.Verdict.the-variants.{Accepted, Refused}
+use Rattle.accept.specs.Verdicts.{unless, andThen, judgedOf}
+use Rattle.board.specs.declared.RetractableBoard.{RetractableBoard}
+use Rattle.board.specs.declared.Boarded.{Boarded}
+use Rattle.board.specs.declared.PieceOn.{PieceOn}
+use Rattle.board.specs.declared.PieceOn.the-variants.{Nobody, Kind, Refused as notAsked}
+use Rattle.board.specs.declared.Attacked.{Attacked}
+use Rattle.board.specs.declared.Attacked.the-variants.{Yes, No, Refused as notTold}
+use Rattle.board.specs.Gate.{menOn, gateOf, boardedBy}
+
+-- a board of raw men, its union, pins and checkers worked out
+abbrev pub workedOf : List ℕ → List ℕ → Color → CastleRights → CastleRights → EnPassantFlag → RetractableBoard
+workedOf p k c w b st = record {
+  pieces = p;
+  colors = k;
+  combined = unionOf (menAt p k);
+  turn = c;
+  white = w;
+  black = b;
+  pinned = pinsOf (menAt p k) c;
+  checkers = checkersOf (menAt p k) c;
+  passant = st;
+}
+
+-- "raw men come in through 1 to 6"
+abbrev pub newOf : List ℕ → List ℕ → Color → CastleRights → CastleRights → EnPassantFlag → Boarded
+newOf p k c w b st = boardedBy (judgedOf p k c (rightsOf w b) st) (workedOf p k c w b st)
+
+-- the kind on a square
+abbrev pub kindOn : Man → PieceOn
+kindOn empty = Nobody
+kindOn (man c k) = Kind k
+
+-- the kind with a number, by which the code has it
+unfoldable pub pieceNumbered : ℕ → PieceOn
+pieceNumbered zero = Nobody
+pieceNumbered (suc zero) = Kind Pawn
+pieceNumbered (suc (suc zero)) = Kind Knight
+pieceNumbered (suc (suc (suc zero))) = Kind Bishop
+pieceNumbered (suc (suc (suc (suc zero)))) = Kind Rook
+pieceNumbered (suc (suc (suc (suc (suc zero))))) = Kind Queen
+pieceNumbered (suc (suc (suc (suc (suc (suc n)))))) = Kind King
+
+-- `piece_on`: 1 to 7, then 9 for the square
+abbrev pub pieceAfter : Verdict → ℕ → Men → PieceOn
+pieceAfter (Refused r) sq m = notAsked r
+pieceAfter Accepted sq m = cond (ltb sq 64) (kindOn (m sq)) (notAsked Source)
+
+abbrev pub pieceOnOf : RetractableBoard → ℕ → PieceOn
+pieceOnOf b sq = pieceAfter (gateOf b) sq (menOn b)
+
+-- `is_attacked`: 1 to 7, then 9 for the square
+abbrev pub toldBy : Bool → Attacked
+toldBy true = Yes
+toldBy false = No
+
+abbrev pub attackedAfter : Verdict → ℕ → Color → Men → Attacked
+attackedAfter (Refused r) sq c m = notTold r
+attackedAfter Accepted sq c m = cond (ltb sq 64) (toldBy (attacked m c sq)) (notTold Source)
+
+abbrev pub attackedOf : RetractableBoard → ℕ → Color → Attacked
+attackedOf b sq c = attackedAfter (gateOf b) sq c (menOn b)
+
+abbrev pub withPassant : RetractableBoard → EnPassantFlag → RetractableBoard
+withPassant b st = record {
+  pieces = b .pieces;
+  colors = b .colors;
+  combined = b .combined;
+  turn = b .turn;
+  white = b .white;
+  black = b .black;
+  pinned = b .pinned;
+  checkers = b .checkers;
+  passant = st;
+}
+
+-- "`set_en_passant` tests 5 again for its new state (none after unknown is allowed, on its caller's word)"
+abbrev pub passantVerdict : RetractableBoard → EnPassantFlag → Verdict
+passantVerdict b st = andThen (gateOf b) (unless (stateOk (menOn b) (b .turn) st) Passant Accepted)
+
+abbrev pub setPassantOf : RetractableBoard → EnPassantFlag → Boarded
+setPassantOf b st = boardedBy (passantVerdict b st) (withPassant b st)
+
+-- `set_uncertain_ep`: none becomes unknown, all else stays
+abbrev pub uncertain : EnPassantFlag → EnPassantFlag
+uncertain Any = Any
+uncertain (Some q) = Some q
+uncertain None = Any
+
+abbrev pub uncertainOf : RetractableBoard → Boarded
+uncertainOf b = boardedBy (gateOf b) (withPassant b (uncertain (b .passant)))

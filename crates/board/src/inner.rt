@@ -1,0 +1,109 @@
+// The gate, and a board from raw men, over a lent table of squares between.
+use super::Boarded;
+use super::RetractableBoard;
+use accept::Refusal;
+use accept::Verdict;
+use laws::CastleRights;
+use laws::Color;
+use laws::EnPassantFlag;
+ghost use mathlib.Core.Path.{_≡_};
+ghost use mathlib.Core.Bool.{true, not};
+ghost use Rattle.geometry.specs.Lines.{IsBetween};
+ghost use Rattle.laws.specs.Acceptance.{kingsOk};
+ghost use Rattle.laws.specs.Boards.{menAt, Clean};
+ghost use Rattle.board.specs.Gate.{freshBy, gateOf};
+ghost use Rattle.board.specs.Answers.{workedOf, newOf};
+
+// 7 STALE
+fn stale(
+    t: &[u64; 4096],
+    pieces: [u64; 6],
+    colors: [u64; 2],
+    turn: Color,
+    combined: u64,
+    checkers: u64,
+    pinned: u64,
+) -> bool
+    requires { ⌜ IsBetween (now t) × Clean pieces colors × (kingsOk (menAt pieces colors) ≡ true) ⌝ }
+    ensures { λ r. ⌜ r ≡ not (freshBy (menAt pieces colors) turn combined checkers pinned) ⌝ }
+{
+    let men = men::inner::occupied(pieces, colors);
+    let checks = pins::inner::checkers(t, pieces, colors, turn);
+    let pins = pins::inner::pins(t, pieces, colors, turn);
+    !((combined == men) & (checkers == checks) & (pinned == pins))
+}
+
+// Refusals 1 to 7.
+pub fn gate(t: &[u64; 4096], b: RetractableBoard) -> Verdict
+    requires { ⌜ IsBetween (now t) ⌝ }
+    ensures { λ v. ⌜ v ≡ gateOf b ⌝ }
+{
+    let pieces = b.pieces;
+    let colors = b.colors;
+    let turn = b.turn;
+    let white = b.white;
+    let black = b.black;
+    let passant = b.passant;
+    let v = accept::inner::judge(t, pieces, colors, turn, white, black, passant);
+    match v {
+        Verdict::Refused(r) => Verdict::Refused(r),
+        Verdict::Accepted => {
+            if stale(t, pieces, colors, turn, b.combined, b.checkers, b.pinned) {
+                return Verdict::Refused(Refusal::Stale);
+            }
+            Verdict::Accepted
+        }
+    }
+}
+
+// The union, checkers and pins of clean men, worked out.
+pub fn worked(
+    t: &[u64; 4096],
+    pieces: [u64; 6],
+    colors: [u64; 2],
+    turn: Color,
+    white: CastleRights,
+    black: CastleRights,
+    passant: EnPassantFlag,
+) -> RetractableBoard
+    requires { ⌜ IsBetween (now t) × Clean pieces colors × (kingsOk (menAt pieces colors) ≡ true) ⌝ }
+    ensures { λ r. ⌜ r ≡ workedOf pieces colors turn white black passant ⌝ }
+{
+    let combined = men::inner::occupied(pieces, colors);
+    let checkers = pins::inner::checkers(t, pieces, colors, turn);
+    let pinned = pins::inner::pins(t, pieces, colors, turn);
+    RetractableBoard {
+        pieces,
+        colors,
+        combined,
+        turn,
+        white,
+        black,
+        pinned,
+        checkers,
+        passant,
+    }
+}
+
+// A board from raw men: refusals 1 to 6.
+pub fn board_from(
+    t: &[u64; 4096],
+    pieces: [u64; 6],
+    colors: [u64; 2],
+    turn: Color,
+    white: CastleRights,
+    black: CastleRights,
+    passant: EnPassantFlag,
+) -> Boarded
+    requires { ⌜ IsBetween (now t) ⌝ }
+    ensures { λ r. ⌜ r ≡ newOf pieces colors turn white black passant ⌝ }
+{
+    let v = accept::inner::judge(t, pieces, colors, turn, white, black, passant);
+    match v {
+        Verdict::Refused(r) => super::board_by(Verdict::Refused(r), super::no_board()),
+        Verdict::Accepted => {
+            let b = worked(t, pieces, colors, turn, white, black, passant);
+            super::board_by(Verdict::Accepted, b)
+        }
+    }
+}
