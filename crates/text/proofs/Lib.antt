@@ -1,0 +1,4 @@
+pub mod Tails
+pub mod Bytes
+pub mod Walks
+pub mod Inverse
