@@ -1,7 +1,7 @@
 -- The fields after the men, added to a line.
 use mathlib.Core.Path.{_≡_}
 use mathlib.Core.List.{List, [], _∷_, _++_}
-use Prim.Native.Nat.{ℕ, _≤_, _<_}
+use Prim.Native.Nat.{ℕ, _+_, _≤_, _<_}
 use native.Mathlib.Omega.{arith}
 use lib.ListN.{length, length-append}
 use Rattle.geometry.specs.declared.Color.{Color}
@@ -22,11 +22,14 @@ side-is k q e a = rw e a
 pub state-is : {l r : Line} {x y : EnPassantFlag} → x ≡ y → Added l (stateText y) r → Added l (stateText x) r
 state-is e a = rw e a
 
-pub side-short : (k q : ℕ) (x : CastleRights) → length (sideText k q x) ≤ 2
+side-short : (k q : ℕ) (x : CastleRights) → length (sideText k q x) ≤ 2
 side-short k q NoRights = omega arith
 side-short k q KingSide = omega arith
 side-short k q QueenSide = omega arith
 side-short k q Both = omega arith
+
+pub side-grows : (k q : ℕ) (x : CastleRights) {l r : Line} → Added l (sideText k q x) r → r .len ≤ l .len + 2
+side-grows k q x a = omega (arith, a .len, side-short k q x)
 
 dash-short : (t : List ℕ) (n : ℕ) → 0 < n → length t ≤ n → length (orDash t) ≤ n
 dash-short [] n h k = h

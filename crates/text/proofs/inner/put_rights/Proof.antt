@@ -1,7 +1,7 @@
 -- `text::inner::put_rights` meets its contract.
 use native.Mathlib.Omega.{arith}
 use borrow.Author.Needs.{needs}
-use Rattle.text.proofs.Tails.{side-short, dash-none, dash-some}
+use Rattle.text.proofs.Tails.{side-grows, dash-none, dash-some}
 use Rattle.placement.proofs.Adding.{added-both}
 use Rattle.text.proofs.inner.put_rights.Statement.{statement}
 use Rattle.text.proofs.inner.put_rights.Tie as tie
@@ -10,7 +10,7 @@ put-side-requires : tie.Need-put-side-requires
 put-side-requires c κs = search needs
 
 put-side-requires-2 : tie.Need-put-side-requires-2
-put-side-requires-2 c κs = omega (arith, c .put-side .ensures .len, side-short 75 81 (c .before .args .w))
+put-side-requires-2 c κs = let h = side-grows _ _ (c .before .args .w) (c .put-side .ensures) in omega arith
 
 push-requires : tie.Need-push-requires
 push-requires c κs = search needs
