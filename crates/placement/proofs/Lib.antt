@@ -1,3 +1,4 @@
 pub mod Adding
 pub mod Belonging
 pub mod Shown
+pub mod RankForm

@@ -49,7 +49,7 @@ says-one t f g p q =
     sym (read-print f (p .clean) (p .square)) ∙ ap readAs (p .text ∙ sym (q .text)) ∙ read-print g (q .clean) (q .square)
 
 -- whatever is read is clean, and names a square of the board
-read-clean : (m : Men) → sets.OnBoard m → Clean (kindSets m) (colorSets m)
+pub read-clean : (m : Men) → sets.OnBoard m → Clean (kindSets m) (colorSets m)
 read-clean m on = record { kinds = ap kindSets (sym (men-shown m on)); colours = ap colorSets (sym (men-shown m on)) }
 
 read-square : (n : ℕ) → OnBoard (flagOf n)

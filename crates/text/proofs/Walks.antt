@@ -99,13 +99,15 @@ read-man p c k h =
     step-is p h (is-letter c k)
     ∙ ap₂ st (zeros p m h ∙ (rw (l, append-snoc))) (sym l)
 
+left-over : (a n : ℕ) → a + suc n ≤ 64 → suc (64 - (a + 1)) ≡ suc n + (64 - (a + suc n))
+left-over a n h = omega arith
+
 read-digit : (p : List ℕ) (n : ℕ) → n < 8 → length p + suc n ≤ 64 → stepOf (mid p) (48 + suc n) ≡ mid (p ++ replicate (suc n) 0)
 read-digit p n h k =
     let l : length (p ++ replicate (suc n) 0) ≡ length p + suc n = length-append p (replicate (suc n) 0) ∙ ap (λ (x : ℕ). length p + x) (length-replicate (suc n) 0) in
-    let e : suc (64 - (length p + 1)) ≡ suc n + (64 - (length p + suc n)) = omega arith in
     step-is p (omega arith) (is-digit n h)
     ∙ ap₂ st
-    (zeros p 0 (omega arith) ∙ ap (λ (x : ℕ). p ++ replicate x 0) e
+    (zeros p 0 (omega arith) ∙ ap (λ (x : ℕ). p ++ replicate x 0) (left-over (length p) n k)
     ∙ ap (λ (x : List ℕ). p ++ x) (sym (replicate-append-replicate (suc n) (64 - (length p + suc n)) 0))
     ∙ sym (append-assoc p (replicate (suc n) 0) (replicate (64 - (length p + suc n)) 0))
     ∙ ap (λ (x : ℕ). (p ++ replicate (suc n) 0) ++ replicate (64 - x) 0) (sym l))
