@@ -14,7 +14,7 @@ use Rattle.text.specs.declared.Scan.{Scan}
 use Rattle.text.specs.declared.Verdict.{Verdict}
 use Rattle.text.specs.declared.Verdict.the-variants.{InForm, OutOfForm}
 use Rattle.text.specs.declared.Raw.{Raw}
-use Rattle.text.specs.Form.{OnBoard, Fields, printed, Says, fieldsOf, AnswersBy, Answers}
+use Rattle.text.specs.Form.{StateFits, Fields, printed, Says, fieldsOf, AnswersBy, Answers}
 use Rattle.text.specs.Copies.{SameAs}
 use Rattle.text.specs.Reading.{startOf, runOf, flagOf, rawOf, noRaw}
 use Rattle.laws.proofs.ManSets.{men-shown, men-on, men-ok}
@@ -28,7 +28,7 @@ abbrev readAs : List ℕ → Fields
 readAs t = fieldsOf (rawOf (runOf startOf t))
 
 -- the walk over the text of some fields reads those fields
-read-print : (f : Fields) → Clean (f .pieces) (f .colors) → OnBoard (f .passant) → readAs (printed f) ≡ f
+read-print : (f : Fields) → Clean (f .pieces) (f .colors) → StateFits (f .passant) → readAs (printed f) ≡ f
 read-print f c h =
     let m = menAt (f .pieces) (f .colors) in
     let r = rights-back (f .white) (f .black) in
@@ -52,10 +52,10 @@ says-one t f g p q =
 pub read-clean : (m : Men) → sets.OnBoard m → Clean (kindSets m) (colorSets m)
 read-clean m on = record { kinds = ap kindSets (sym (men-shown m on)); colours = ap colorSets (sym (men-shown m on)) }
 
-read-square : (n : ℕ) → OnBoard (flagOf n)
+read-square : (n : ℕ) → StateFits (flagOf n)
 read-square n = go (eqb n 64) (eqb n 65)
   where
-    go : (x y : Bool) → OnBoard (cond x None (cond y Any (Some (n % 64))))
+    go : (x y : Bool) → StateFits (cond x None (cond y Any (Some (n % 64))))
     go true y = tt
     go false true = tt
     go false false = omega arith
@@ -67,7 +67,7 @@ module _ (t : List ℕ) (r : Raw) (l : List ℕ) (b : Bool) (e : r ≡ rawOf (ru
       let s : Says (fieldsOf r) t =
       record {
         clean = subst (λ (x : Raw). Clean (x .pieces) (x .colors)) (sym e) (read-clean (menOf (runOf startOf t .men)) (men-of-on (runOf startOf t .men)));
-        square = subst (λ (x : Raw). OnBoard (x .passant)) (sym e) (read-square (runOf startOf t .square));
+        square = subst (λ (x : Raw). StateFits (x .passant)) (sym e) (read-square (runOf startOf t .square));
         text = sym p ∙ same-true l t b q h;
       } in
       subst (λ (v : Verdict). AnswersBy t (fieldsOf r) v) (sym (ap (λ (x : Raw). x .verdict) e)) s
@@ -113,7 +113,7 @@ inForm f =
     }
 
 -- read after print gives the fields back
-pub read-printed : (f : Fields) → Clean (f .pieces) (f .colors) → OnBoard (f .passant) → (r : Raw) → Answers (printed f) r → r ≡ inForm f
+pub read-printed : (f : Fields) → Clean (f .pieces) (f .colors) → StateFits (f .passant) → (r : Raw) → Answers (printed f) r → r ≡ inForm f
 read-printed f c h r a = one-answer (printed f) r (inForm f) a (record { clean = c; square = h; text = refl })
 
 -- print after read gives the bytes

@@ -23,7 +23,7 @@ use Rattle.laws.specs.Men.{Man, empty, man, Men, manNumber, isEmpty}
 use Rattle.placement.specs.Placement.{letterOf, flushOf, runText, squaresFrom, rankText, ranksText, menText, byteOf}
 use Rattle.placement.specs.Letters.{numberOf, widthOf, placeOf, manOf, menOf}
 use Rattle.text.specs.declared.Scan.{Scan}
-use Rattle.text.specs.Form.{turnByte, rightsText, stateText, tailText, printOf}
+use Rattle.text.specs.Form.{turnByte, rightsText, stateText, tailText, printOf, StateFits}
 use Rattle.text.specs.Reading.{rightOf, squareOf, withMan, stepMen, stepTail, stepOf, startOf, runOf, turnOf, sideOf, flagOf}
 use Rattle.squares.proofs.Testing.{left, right, order}
 use Rattle.squares.proofs.Every.{all-at}
@@ -31,7 +31,6 @@ use Rattle.laws.proofs.Cases.{by-men}
 use Rattle.laws.proofs.ManSets.{OnBoard}
 use Rattle.placement.proofs.Adding.{length-squares}
 use Rattle.placement.proofs.Belonging.{man-back}
-use Rattle.text.specs.Form as form
 
 pub run-append : (a b : List ℕ) (s : Scan) → runOf s (a ++ b) ≡ runOf (runOf s a) b
 unfolding runOf
@@ -296,7 +295,7 @@ square-back : (s : ℕ) → s < 64 → squareOf (squareOf 0 (97 + file s)) (49 +
 unfolding squareOf allTo _and_
 square-back s h = eqb-true _ _ (all-at 64 (λ k. eqb (squareOf (squareOf 0 (97 + file k)) (49 + rank k)) k) refl s h)
 
-read-state : (l : List ℕ) (n b r : ℕ) (e : EnPassantFlag) → form.OnBoard e → runOf (full l n 2 b r 0) (32 ∷ stateText e) ≡ full l n 3 b r (number e)
+read-state : (l : List ℕ) (n b r : ℕ) (e : EnPassantFlag) → StateFits e → runOf (full l n 2 b r 0) (32 ∷ stateText e) ≡ full l n 3 b r (number e)
 unfolding runOf stepOf stepTail squareOf
 read-state l n b r Any h = refl
 read-state l n b r None h = refl
@@ -327,14 +326,14 @@ rights-back Both KingSide = (refl, refl)
 rights-back Both QueenSide = (refl, refl)
 rights-back Both Both = (refl, refl)
 
-pub flag-back : (e : EnPassantFlag) → form.OnBoard e → flagOf (number e) ≡ e
+pub flag-back : (e : EnPassantFlag) → StateFits e → flagOf (number e) ≡ e
 flag-back Any h = refl
 flag-back None h = refl
 flag-back (Some s) h =
     let q : s % 64 ≡ s = omega arith in
     simp (ne-eqb s 64 (λ e. omega arith), ne-eqb s 65 (λ e. omega arith), q)
 
-read-tail : (l : List ℕ) (n : ℕ) (c : Color) (w k : CastleRights) (e : EnPassantFlag) → form.OnBoard e
+read-tail : (l : List ℕ) (n : ℕ) (c : Color) (w k : CastleRights) (e : EnPassantFlag) → StateFits e
     → runOf (st l n) (tailText c w k e) ≡ full l n 3 (turnByte c) (code w + 4 * code k) (number e)
 read-tail l n c w k e h =
     read-turn l n c (rightsText w k ++ (32 ∷ stateText e))
@@ -343,7 +342,7 @@ read-tail l n c w k e h =
     ∙ read-state l n (turnByte c) (code w + 4 * code k) e h
 
 -- a whole text
-pub read-text : (m : Men) (c : Color) (w k : CastleRights) (e : EnPassantFlag) → form.OnBoard e
+pub read-text : (m : Men) (c : Color) (w k : CastleRights) (e : EnPassantFlag) → StateFits e
     → runOf startOf (printOf m c w k e) ≡ full (board m) 64 3 (turnByte c) (code w + 4 * code k) (number e)
 unfolding printOf
 read-text m c w k e h =

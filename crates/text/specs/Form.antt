@@ -63,15 +63,16 @@ pub record Fields : Type 0 where
 abbrev pub printed : Fields → List ℕ
 printed f = printOf (menAt (f .pieces) (f .colors)) (f .turn) (f .white) (f .black) (f .passant)
 
-abbrev pub OnBoard : EnPassantFlag → Type 0
-OnBoard Any = Unit {0}
-OnBoard (Some s) = s < 64
-OnBoard None = Unit {0}
+-- "the square is any from a1 to h8": a square that is named is one of the board
+abbrev pub StateFits : EnPassantFlag → Type 0
+StateFits Any = Unit {0}
+StateFits (Some s) = s < 64
+StateFits None = Unit {0}
 
 -- the text t says f: clean men, a square of the board if one is named, and the printer writes t of them
 pub record Says (f : Fields) (t : List ℕ) : Type 0 where
   pub clean : Clean (f .pieces) (f .colors)
-  pub square : OnBoard (f .passant)
+  pub square : StateFits (f .passant)
   pub text : printed f ≡ t
 
 abbrev pub fieldsOf : Raw → Fields

@@ -7,7 +7,7 @@ use Rattle.geometry.specs.declared.Color.{Color}
 use Rattle.laws.specs.declared.CastleRights.{CastleRights}
 use Rattle.laws.specs.declared.EnPassantFlag.{EnPassantFlag}
 use Rattle.placement.specs.Grammar.{isRank}
-use Rattle.text.specs.Form.{tailText, OnBoard}
+use Rattle.text.specs.Form.{tailText, StateFits}
 
 -- the r lowest of given ranks, from the highest down, each after a slash
 unfoldable pub slashed : (ℕ → List ℕ) → ℕ → List ℕ
@@ -22,5 +22,5 @@ pub record Formed (t : List ℕ) : Type 0 where
   pub white : CastleRights
   pub black : CastleRights
   pub passant : EnPassantFlag
-  pub square : OnBoard passant
+  pub square : StateFits passant
   pub text : (ranks 7 ++ slashed ranks 7) ++ tailText turn white black passant ≡ t

@@ -5,6 +5,7 @@ use native.Mathlib.Omega.{arith}
 use lib.ListN.{length, getD}
 use borrow.Author.Count.{below-none, below-more}
 use borrow.Author.Needs.{needs}
+use denote.Ref.{now}
 use Rattle.text.proofs.Bytes.{same-yes, same-no, same-long}
 use Rattle.text.proofs.inner.same.Statement.{statement}
 use Rattle.text.proofs.inner.same.Tie as tie
@@ -18,7 +19,7 @@ abbrev μ-loop : tie.MeasureT-loop
 
 returns : tie.Need-returns Inv-loop μ-loop
 returns c =
-    same-long _ _ _ (let e : length (c .before .before .args .l .bytes) ≡ 81 = search needs in omega arith) (c .if1 .taken)
+    same-long (c .before .before .args .l .bytes) (now (c .before .before .args .t)) (c .before .before .args .l .len) (let e : length (c .before .before .args .l .bytes) ≡ 81 = search needs in omega arith) (λ e. omega arith)
 
 loop-holds : tie.Need-loop-holds Inv-loop μ-loop
 loop-holds c = (omega arith, below-none _)
