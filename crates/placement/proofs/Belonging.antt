@@ -1,0 +1,92 @@
+-- The sets of 64 numbers of men are the sets of the men that they are.
+use mathlib.Core.Path.{_≡_, refl, sym, _∙_, ap}
+use mathlib.Core.Bool.{Bool, true}
+use mathlib.Core.List.{List}
+use Prim.Native.Nat.{ℕ, _%_, _<_, _+_}
+use native.Mathlib.Omega.{arith}
+use lib.ListN.{getD}
+use borrow.Author.Tests.{lt-ltb, le-ltb}
+use Rattle.squares.specs.Tests.{_and_}
+use Rattle.squares.specs.Squares.{setOf, allTo}
+use Rattle.geometry.specs.declared.Color.{Color}
+use Rattle.geometry.specs.declared.Color.the-variants.{White, Black}
+use Rattle.laws.specs.declared.Piece.{Piece}
+use Rattle.laws.specs.declared.Piece.the-variants.{Pawn, Knight, Bishop, Rook, Queen, King}
+use Rattle.laws.specs.Men.{Man, empty, man, kindPlace, colorPlace, manNumber, isKind, isOf}
+use Rattle.placement.specs.Letters.{placeOf, manOf, menOf, belongs}
+use Rattle.squares.proofs.Testing.{agree, agree-eq}
+use Rattle.squares.proofs.Comprehension.{upTo-cong}
+use Rattle.squares.proofs.Every.{all-at}
+use Rattle.laws.proofs.ManSets.{OnBoard}
+
+-- computed over the fourteen numbers
+rightKind : Piece → ℕ → Bool
+rightKind k n = agree (belongs (kindPlace k) n) (isKind k (manOf n))
+
+every-kind : (k : Piece) → allTo 14 (rightKind k) ≡ true
+unfolding rightKind belongs manOf allTo _and_
+every-kind Pawn = refl
+every-kind Knight = refl
+every-kind Bishop = refl
+every-kind Rook = refl
+every-kind Queen = refl
+every-kind King = refl
+
+rightColor : Color → ℕ → Bool
+rightColor c n = agree (belongs (6 + colorPlace c) n) (isOf c (manOf n))
+
+every-color : (c : Color) → allTo 14 (rightColor c) ≡ true
+unfolding rightColor belongs manOf allTo _and_
+every-color White = refl
+every-color Black = refl
+
+-- a number and its remainder are the same man
+round : (n : ℕ) → n % 14 % 14 ≡ n % 14
+round n = omega arith
+
+kind-low : (k : Piece) (n : ℕ) → n < 14 → belongs (kindPlace k) n ≡ isKind k (manOf n)
+unfolding rightKind
+kind-low k n h = agree-eq (belongs (kindPlace k) n) (isKind k (manOf n)) (all-at 14 (rightKind k) (every-kind k) n h)
+
+kind-in : (k : Piece) (n : ℕ) → belongs (kindPlace k) n ≡ isKind k (manOf n)
+unfolding belongs manOf
+kind-in k n = let e = kind-low k (n % 14) (omega arith) in simp (round n) at e
+
+color-low : (c : Color) (n : ℕ) → n < 14 → belongs (6 + colorPlace c) n ≡ isOf c (manOf n)
+unfolding rightColor
+color-low c n h = agree-eq (belongs (6 + colorPlace c) n) (isOf c (manOf n)) (all-at 14 (rightColor c) (every-color c) n h)
+
+color-in : (c : Color) (n : ℕ) → belongs (6 + colorPlace c) n ≡ isOf c (manOf n)
+unfolding belongs manOf
+color-in c n = let e = color-low c (n % 14) (omega arith) in simp (round n) at e
+
+man-there : (l : List ℕ) (k : ℕ) → k < 64 → menOf l k ≡ manOf (getD l (placeOf k) 0)
+unfolding menOf
+man-there l k h = rw (lt-ltb k 64 h)
+
+pub men-of-on : (l : List ℕ) → OnBoard (menOf l)
+unfolding menOf
+men-of-on l k h = rw (le-ltb k 64 h)
+
+pub kind-set : (l : List ℕ) (k : Piece) → setOf (λ a. belongs (kindPlace k) (getD l (placeOf a) 0)) ≡ setOf (λ a. isKind k (menOf l a))
+kind-set l k = upTo-cong 64 _ _ (λ a h. kind-in k (getD l (placeOf a) 0) ∙ ap (isKind k) (sym (man-there l a h)))
+
+pub color-set : (l : List ℕ) (c : Color) → setOf (λ a. belongs (6 + colorPlace c) (getD l (placeOf a) 0)) ≡ setOf (λ a. isOf c (menOf l a))
+color-set l c = upTo-cong 64 _ _ (λ a h. color-in c (getD l (placeOf a) 0) ∙ ap (isOf c) (sym (man-there l a h)))
+
+-- a man is the man of its number
+pub man-back : (x : Man) → manOf (manNumber x) ≡ x
+unfolding manOf
+man-back empty = refl
+man-back (man White Pawn) = refl
+man-back (man White Knight) = refl
+man-back (man White Bishop) = refl
+man-back (man White Rook) = refl
+man-back (man White Queen) = refl
+man-back (man White King) = refl
+man-back (man Black Pawn) = refl
+man-back (man Black Knight) = refl
+man-back (man Black Bishop) = refl
+man-back (man Black Rook) = refl
+man-back (man Black Queen) = refl
+man-back (man Black King) = refl

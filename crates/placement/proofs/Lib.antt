@@ -1,0 +1,4 @@
+pub mod Adding
+pub mod Belonging
+pub mod Shown
+pub mod RankForm

@@ -1,0 +1,4 @@
+pub mod Placement
+pub mod Grammar
+pub mod Lines
+pub mod Letters

@@ -1,0 +1,4 @@
+pub mod Form
+pub mod Copies
+pub mod Reading
+pub mod Grammar
