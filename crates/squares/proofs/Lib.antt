@@ -6,3 +6,4 @@ pub mod Counting
 pub mod LeastMember
 pub mod Collect
 pub mod Shifts
+pub mod Members
