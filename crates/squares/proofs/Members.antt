@@ -5,7 +5,7 @@ use mathlib.Core.Logic.{_⊎_, inl, inr, ⊎-elim}
 use mathlib.Core.Bool.{Bool, true, false, not, cond}
 use mathlib.Core.List.{List, [], _∷_, _++_}
 use Prim.Native.Nat.{ℕ, zero, suc, _+_, _-_, _%_, _^_, _<_, _≤_}
-use native.Mathlib.Nat.{le-refl, le-suc, le-trans, lt-trans, mod-eq-of-lt, not-suc-le-zero}
+use native.Mathlib.Nat.{le-refl, le-suc, le-trans, lt-trans, mod-eq-of-lt, not-suc-le-zero, zero-lt-suc}
 use native.Mathlib.Omega.{arith}
 use lib.Dec.{eqb}
 use borrow.Author.Tests.{eq-eqb, ne-eqb}
@@ -69,6 +69,24 @@ first-is s k m = ⊎-elim some none (order 0 s)
     none p =
         let e : s ≡ 0 = omega arith in
         ap (λ (x : ℕ). x % 64) (m .none e) ∙ sym (ap (λ (x : ℕ). headOr 0 (members x)) e ∙ ap (headOr 0) members-none)
+
+-- it is a square, whatever the set
+head-lt : (xs ys : List ℕ) → headOr 0 xs < 64 → headOr 0 ys < 64 → headOr 0 (xs ++ ys) < 64
+head-lt [] ys a b = b
+head-lt (x ∷ xs) ys a b = a
+
+list-head-lt : (n : ℕ) (p : ℕ → Bool) → n ≤ 64 → headOr 0 (listTo n p) < 64
+unfolding listTo
+list-head-lt zero p h = zero-lt-suc 63
+list-head-lt (suc n) p h = head-lt (listTo n p) (cond (p n) (n ∷ []) []) (list-head-lt n p (omega arith)) (at (p n))
+  where
+    at : (t : Bool) → headOr 0 (cond t (n ∷ []) []) < 64
+    at true = h
+    at false = zero-lt-suc 63
+
+pub first-lt : (s : ℕ) → firstOf s < 64
+unfolding firstOf members
+first-lt s = list-head-lt 64 (has s) (le-refl 64)
 
 -- the loop's invariant: what there is, with the members left still to come, makes the whole
 pub record Going {A : Type 0} (f : A → ℕ → A) (start : A) (set : ℕ) (x : A) (left : ℕ) : Type 0 where

@@ -1,0 +1,25 @@
+use borrow.Author.Needs.{needs}
+use Rattle.masks.proofs.inner.beyond.Statement.{statement}
+use Rattle.masks.proofs.inner.beyond.Tie as tie
+use Rattle.masks.proofs.inner.beyond.Reads as reads
+use Rattle.masks.proofs.inner.beyond.Lts as lts
+use Rattle.squares.proofs.count.Reads as count-reads
+
+-- src/inner.rt:29:9
+count-requires : tie.Need-count-requires
+count-requires c κs = search needs
+
+-- src/inner.rt:30:16
+sub-result : tie.Need-sub-result
+sub-result c = search needs
+
+-- src/inner.rt:26:1
+returns : tie.Need-returns
+returns c = ?
+
+-- src/inner.rt:26:1
+returns-2 : tie.Need-returns-2
+returns-2 c = search needs
+
+pub beyond-spec : {M : Type 1} → statement M
+beyond-spec = tie.close (tie.spec count-requires sub-result returns returns-2)

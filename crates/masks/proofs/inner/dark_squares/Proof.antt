@@ -1,0 +1,11 @@
+use Rattle.masks.proofs.inner.dark_squares.Statement.{statement}
+use Rattle.masks.proofs.inner.dark_squares.Tie as tie
+use Rattle.masks.proofs.inner.dark_squares.Reads as reads
+use Rattle.masks.proofs.inner.dark_squares.Lts as lts
+
+-- src/inner.rt:13:1
+returns : tie.Need-returns
+returns c = ?
+
+pub dark-squares-spec : {M : Type 1} → statement M
+dark-squares-spec = tie.close (tie.spec returns)

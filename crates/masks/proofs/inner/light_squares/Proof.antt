@@ -1,0 +1,11 @@
+use Rattle.masks.proofs.inner.light_squares.Statement.{statement}
+use Rattle.masks.proofs.inner.light_squares.Tie as tie
+use Rattle.masks.proofs.inner.light_squares.Reads as reads
+use Rattle.masks.proofs.inner.light_squares.Lts as lts
+
+-- src/inner.rt:7:1
+returns : tie.Need-returns
+returns c = ?
+
+pub light-squares-spec : {M : Type 1} → statement M
+light-squares-spec = tie.close (tie.spec returns)

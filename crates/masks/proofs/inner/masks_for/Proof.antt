@@ -1,0 +1,26 @@
+use borrow.Author.Needs.{needs}
+use Rattle.masks.proofs.inner.masks_for.Statement.{statement}
+use Rattle.masks.proofs.inner.masks_for.Tie as tie
+use Rattle.masks.proofs.inner.masks_for.Reads as reads
+use Rattle.masks.proofs.inner.masks_for.Lts as lts
+use Rattle.masks.proofs.inner.masks_at.Reads as masks-at-reads
+use Rattle.masks.proofs.inner.souls.Reads as souls-reads
+
+-- src/inner.rt:84:9
+souls-requires : tie.Need-souls-requires
+souls-requires c κs = search needs
+
+-- src/inner.rt:86:9
+returns : tie.Need-returns
+returns c = ?
+
+-- src/inner.rt:88:5
+masks-at-requires : tie.Need-masks-at-requires
+masks-at-requires c κs = search needs
+
+-- src/inner.rt:81:1
+returns-2 : tie.Need-returns-2
+returns-2 c = ?
+
+pub masks-for-spec : {M : Type 1} → statement M
+masks-for-spec = tie.close (tie.spec souls-requires returns masks-at-requires returns-2)

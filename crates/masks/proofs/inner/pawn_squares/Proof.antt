@@ -1,0 +1,11 @@
+use Rattle.masks.proofs.inner.pawn_squares.Statement.{statement}
+use Rattle.masks.proofs.inner.pawn_squares.Tie as tie
+use Rattle.masks.proofs.inner.pawn_squares.Reads as reads
+use Rattle.masks.proofs.inner.pawn_squares.Lts as lts
+
+-- src/inner.rt:19:1
+returns : tie.Need-returns
+returns c = ?
+
+pub pawn-squares-spec : {M : Type 1} → statement M
+pawn-squares-spec = tie.close (tie.spec returns)
