@@ -1,3 +1,6 @@
+use native.Mathlib.Omega.{arith}
+use Rattle.squares.specs.Squares.{has}
+use Rattle.squares.proofs.Counting.{count-le}
 use borrow.Author.Needs.{needs}
 use Rattle.masks.proofs.inner.beyond.Statement.{statement}
 use Rattle.masks.proofs.inner.beyond.Tie as tie
@@ -15,7 +18,7 @@ sub-result c = search needs
 
 -- src/inner.rt:26:1
 returns : tie.Need-returns
-returns c = ?
+returns c = (rw (c .before .count .ensures), omega (arith, c .before .count .ensures, count-le 64 (has (c .before .before .args .s))))
 
 -- src/inner.rt:26:1
 returns-2 : tie.Need-returns-2

@@ -1,3 +1,4 @@
+use Rattle.masks.specs.Masks.{bishopsOf}
 use borrow.Author.Needs.{needs}
 use Rattle.masks.proofs.inner.bishops.Statement.{statement}
 use Rattle.masks.proofs.inner.bishops.Tie as tie
@@ -34,7 +35,8 @@ choose-requires-2 c κs = search needs
 
 -- src/inner.rt:56:1
 returns : tie.Need-returns
-returns c = ?
+unfolding bishopsOf
+returns c = rw (c .choose2 .ensures, c .before .choose .ensures, c .before .before .count2 .ensures, c .before .before .before .count .ensures, c .before .before .before .before .dark-squares .ensures, c .before .before .before .before .before .light-squares .ensures)
 
 pub bishops-spec : {M : Type 1} → statement M
 bishops-spec =

@@ -1,3 +1,4 @@
+use Rattle.masks.specs.Masks.{masksOf}
 use borrow.Author.Needs.{needs}
 use Rattle.masks.proofs.inner.candidates.Statement.{statement}
 use Rattle.masks.proofs.inner.candidates.Tie as tie
@@ -21,7 +22,8 @@ masks-for-requires c κs = search needs
 
 -- src/inner.rt:91:1
 returns : tie.Need-returns
-returns c = ?
+unfolding masksOf
+returns c = rw (c .masks-for .ensures, c .before .among .ensures, c .before .before .color-set .ensures)
 
 pub candidates-spec : {M : Type 1} → statement M
 candidates-spec = tie.close (tie.spec color-set-requires among-requires masks-for-requires returns)

@@ -1,3 +1,6 @@
+use mathlib.Core.Path.{refl}
+use Rattle.squares.specs.Squares.{upTo}
+use Rattle.masks.specs.Masks.{darkSquares}
 use Rattle.masks.proofs.inner.dark_squares.Statement.{statement}
 use Rattle.masks.proofs.inner.dark_squares.Tie as tie
 use Rattle.masks.proofs.inner.dark_squares.Reads as reads
@@ -5,7 +8,8 @@ use Rattle.masks.proofs.inner.dark_squares.Lts as lts
 
 -- src/inner.rt:13:1
 returns : tie.Need-returns
-returns c = ?
+unfolding darkSquares upTo
+returns c = refl
 
 pub dark-squares-spec : {M : Type 1} → statement M
 dark-squares-spec = tie.close (tie.spec returns)

@@ -1,3 +1,5 @@
+use Rattle.squares.specs.Tests.{_and_}
+use Rattle.masks.specs.Masks.{keptOf}
 use borrow.Author.Needs.{needs}
 use Rattle.masks.proofs.inner.kept.Statement.{statement}
 use Rattle.masks.proofs.inner.kept.Tie as tie
@@ -16,7 +18,8 @@ choose-requires c κs = search needs
 
 -- src/inner.rt:48:1
 returns : tie.Need-returns
-returns c = ?
+unfolding keptOf _and_
+returns c = rw (c .choose .ensures, c .before .count .ensures)
 
 pub kept-spec : {M : Type 1} → statement M
 kept-spec = tie.close (tie.spec count-requires choose-requires returns)

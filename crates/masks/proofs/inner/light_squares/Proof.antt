@@ -1,3 +1,6 @@
+use mathlib.Core.Path.{refl}
+use Rattle.squares.specs.Squares.{upTo}
+use Rattle.masks.specs.Masks.{lightSquares}
 use Rattle.masks.proofs.inner.light_squares.Statement.{statement}
 use Rattle.masks.proofs.inner.light_squares.Tie as tie
 use Rattle.masks.proofs.inner.light_squares.Reads as reads
@@ -5,7 +8,8 @@ use Rattle.masks.proofs.inner.light_squares.Lts as lts
 
 -- src/inner.rt:7:1
 returns : tie.Need-returns
-returns c = ?
+unfolding lightSquares upTo
+returns c = refl
 
 pub light-squares-spec : {M : Type 1} → statement M
 light-squares-spec = tie.close (tie.spec returns)

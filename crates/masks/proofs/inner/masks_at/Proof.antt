@@ -1,3 +1,4 @@
+use Rattle.masks.specs.Masks.{masksAt}
 use borrow.Author.Needs.{needs}
 use Rattle.masks.proofs.inner.masks_at.Statement.{statement}
 use Rattle.masks.proofs.inner.masks_at.Tie as tie
@@ -54,7 +55,8 @@ kept-requires-3 c κs = search needs
 
 -- src/inner.rt:68:1
 returns : tie.Need-returns
-returns c = ?
+unfolding masksAt
+returns c = rw (c .kept3 .ensures, c .before .kept2 .ensures, c .before .before .choose2 .ensures, c .before .before .before .bishops .ensures, c .before .before .before .before .kept .ensures, c .before .before .before .before .before .choose .ensures, c .before .before .before .before .before .before .pawn-squares .ensures)
 
 pub masks-at-spec : {M : Type 1} → statement M
 masks-at-spec =

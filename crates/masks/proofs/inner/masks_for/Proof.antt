@@ -1,3 +1,5 @@
+use borrow.Author.Tests.{lt-ltb, le-ltb}
+use Rattle.masks.specs.Masks.{masksFor}
 use borrow.Author.Needs.{needs}
 use Rattle.masks.proofs.inner.masks_for.Statement.{statement}
 use Rattle.masks.proofs.inner.masks_for.Tie as tie
@@ -12,7 +14,8 @@ souls-requires c κs = search needs
 
 -- src/inner.rt:86:9
 returns : tie.Need-returns
-returns c = ?
+unfolding masksFor
+returns c = rw (← c .before .souls .ensures, lt-ltb _ _ (c .if1 .taken))
 
 -- src/inner.rt:88:5
 masks-at-requires : tie.Need-masks-at-requires
@@ -20,7 +23,8 @@ masks-at-requires c κs = search needs
 
 -- src/inner.rt:81:1
 returns-2 : tie.Need-returns-2
-returns-2 c = ?
+unfolding masksFor
+returns-2 c = rw (c .masks-at .ensures, ← c .before .before .souls .ensures, le-ltb _ _ (c .before .if1 .left))
 
 pub masks-for-spec : {M : Type 1} → statement M
 masks-for-spec = tie.close (tie.spec souls-requires returns masks-at-requires returns-2)

@@ -1,3 +1,8 @@
+use native.Mathlib.Omega.{arith}
+use lib.ListN.{getD}
+use Rattle.squares.specs.Squares.{has}
+use Rattle.squares.proofs.Counting.{count-le}
+use Rattle.masks.specs.Masks.{soulsOf}
 use borrow.Author.Needs.{needs}
 use Rattle.masks.proofs.inner.souls.Statement.{statement}
 use Rattle.masks.proofs.inner.souls.Tie as tie
@@ -82,11 +87,12 @@ add-result-4 c = search needs
 
 -- src/inner.rt:44:5
 add-result-5 : tie.Need-add-result-5
-add-result-5 c = ?
+add-result-5 c = omega (arith, c .before .before .before .before .before .count .ensures, count-le 64 (has (getD (c .before .before .before .before .before .before .before .before .args .t1) 0 0)))
 
 -- src/inner.rt:33:1
 returns : tie.Need-returns
-returns c = ?
+unfolding soulsOf
+returns c = rw (c .beyond5 .ensures .0, c .before .beyond4 .ensures .0, c .before .before .beyond3 .ensures .0, c .before .before .before .beyond2 .ensures .0, c .before .before .before .before .beyond .ensures .0, c .before .before .before .before .before .count .ensures, c .before .before .before .before .before .before .dark-squares .ensures, c .before .before .before .before .before .before .before .light-squares .ensures)
 
 pub souls-spec : {M : Type 1} → statement M
 souls-spec =
