@@ -1,5 +1,5 @@
 -- `enumerate_retractions` (retraction_gen.rs, 231 to 272): the ported list of a board, from its fields, of which no acceptance is asked.
-use mathlib.Core.Bool.{Bool, true, false, cond}
+use mathlib.Core.Bool.{false, cond}
 use mathlib.Core.List.{List, [], _∷_, _++_}
 use Prim.Native.Nat.{ℕ, _%_}
 use lib.Dec.{eqb, ltb}

@@ -1,5 +1,5 @@
 -- `legals` of the king (piece_type.rs, 504 to 608), with the number n of checkers: 0 or 1. `x & s != EMPTY` of a single square x is `has s x`.
-use mathlib.Core.Bool.{Bool, true, false, not, cond}
+use mathlib.Core.Bool.{Bool, false, not, cond}
 use mathlib.Core.List.{List, [], _∷_, _++_}
 use Prim.Native.Nat.{ℕ}
 use lib.Dec.{eqb}

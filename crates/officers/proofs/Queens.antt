@@ -5,12 +5,12 @@ use Prim.Native.Nat.{ℕ, _<_}
 use lib.Bits.{bitXor, xor-lt}
 use Rattle.squares.specs.Tests.{_and_, _or_}
 use Rattle.squares.specs.Squares.{has, setOf, allTo}
-use Rattle.squares.proofs.Digits.{differs, has-xor}
-use Rattle.squares.proofs.Comprehension.{is-upTo, has-setOf, upTo-lt}
-use Rattle.squares.proofs.Every.{pair-eq}
 use Rattle.geometry.specs.Lines.{sameRank, sameFile, sameDiagonal, straight, diagonal, aligned, free, clear}
 use Rattle.geometry.specs.Steps.{reaches}
 use Rattle.scene.specs.Chess.{rookMoves, bishopMoves}
+use Rattle.squares.proofs.Digits.{differs, has-xor}
+use Rattle.squares.proofs.Comprehension.{is-upTo, has-setOf, upTo-lt}
+use Rattle.squares.proofs.Every.{pair-eq}
 
 -- no two squares share both a rank or file and a diagonal, computed over all pairs
 apart : (a k : ℕ) → a < 64 → k < 64 → (straight a k and diagonal a k) ≡ false

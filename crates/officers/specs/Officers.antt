@@ -1,7 +1,7 @@
 -- `legals` of the sliders (piece_type.rs, 17 to 159) and of the knight (371 to 469), one definition over the kind's place among the six and over
 -- the number n of checkers. The knight's own `legals` differs from the sliders' in four places, each marked `eqb k (kindPlace Knight)`.
 -- Where the Rust writes `a & b & c`, the same sets may be grouped otherwise here; `x & s != EMPTY` of a single square x is `has s x`.
-use mathlib.Core.Bool.{Bool, true, false, not, cond}
+use mathlib.Core.Bool.{false, not, cond}
 use mathlib.Core.List.{List, [], _++_}
 use Prim.Native.Nat.{ℕ}
 use lib.Dec.{eqb}

@@ -105,13 +105,7 @@ fn calm(list: RetractionList, t: &[u64; 4096], s: Scene, kind: usize) -> Retract
 }
 
 // One checker, a slider of our own kind on src.
-fn alone_at(
-    list: RetractionList,
-    t: &[u64; 4096],
-    s: Scene,
-    kind: usize,
-    src: u8,
-) -> RetractionList
+fn alone_at(list: RetractionList, t: &[u64; 4096], s: Scene, kind: usize, src: u8) -> RetractionList
     requires { ⌜ Ready (now t) s × (src < 64) ⌝ }
     ensures { λ r. ⌜ r ≡ pushedAll list (aloneAt s kind src) ⌝ }
 {

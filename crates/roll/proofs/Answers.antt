@@ -1,17 +1,16 @@
 -- A list that was filled from the empty one: where its flag is set it answers FULL, else it holds the entries.
-use mathlib.Core.Path.{_≡_, refl, sym, ap, _∙_}
+use mathlib.Core.Path.{_≡_, sym, ap, _∙_}
 use mathlib.Core.Bool.{Bool, true, false, cond}
-use mathlib.Core.Logic.{_⊎_, ⊎-elim}
+use mathlib.Core.Logic.{⊎-elim}
 use mathlib.Core.List.{List, []}
-use Prim.Native.Nat.{ℕ, _<_, _≤_}
 use native.Mathlib.Omega.{arith}
 use lib.Dec.{ltb}
 use lib.ListN.{length}
 use borrow.Author.Tests.{lt-ltb, le-ltb, ltb-false}
-use Rattle.squares.proofs.Testing.{order}
 use Rattle.roll.specs.declared.SourceAndTargets.{SourceAndTargets}
 use Rattle.roll.specs.declared.RetractionList.{RetractionList}
 use Rattle.roll.specs.Roll.{answerOf, holding, fullList, pushedAll}
+use Rattle.squares.proofs.Testing.{order}
 use Rattle.roll.proofs.Pushing.{all-fit, all-over}
 
 -- the flag is the test

@@ -1,22 +1,19 @@
 -- How the contracts of the list's parts go together, and what the list holds in the end.
-use mathlib.Core.Path.{_≡_, refl, sym, ap, ap₂, _∙_, subst}
+use mathlib.Core.Path.{_≡_, refl, sym, ap, _∙_}
 use mathlib.Core.Bool.{Bool, true, false, cond}
 use mathlib.Core.Logic.{_⊎_, inl, inr}
-use Rattle.squares.proofs.Testing.{order}
 use mathlib.Core.List.{List, [], _∷_, _++_, append-assoc, append-nil}
-use Prim.Native.Nat.{ℕ, zero, suc, _+_, _-_, _^_, _<_, _≤_}
+use Prim.Native.Nat.{ℕ, suc, _+_, _-_, _<_, _≤_}
 use native.Mathlib.Omega.{arith}
-use native.Mathlib.Nat.{lt-trans}
-use native.Mathlib.Numerals.{add-one}
-use lib.Dec.{leb}
 use lib.ListN.{length, set, replicate, length-append}
-use lib.Seq.{set-append-seam, append-snoc}
+use lib.Seq.{set-append-seam}
 use borrow.Author.Tests.{lt-leb, le-leb}
 use Rattle.squares.specs.Members.{concat, members, forEach}
-use Rattle.squares.proofs.Members.{Going, going-done}
 use Rattle.roll.specs.declared.SourceAndTargets.{SourceAndTargets}
 use Rattle.roll.specs.declared.RetractionList.{RetractionList}
 use Rattle.roll.specs.Roll.{noEntry, holding, pushed, pushedAll}
+use Rattle.squares.proofs.Testing.{order}
+use Rattle.squares.proofs.Members.{Going, going-done}
 
 -- one part after the other
 pub pushed-both : (l : RetractionList) (xs ys : List SourceAndTargets) → pushedAll (pushedAll l xs) ys ≡ pushedAll l (xs ++ ys)

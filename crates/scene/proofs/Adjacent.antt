@@ -1,15 +1,14 @@
 -- The files beside a square's file, by shifts, computed at each square.
 use mathlib.Core.Path.{_≡_, refl, _∙_}
-use mathlib.Core.Bool.{true}
 use Prim.Native.Nat.{ℕ, _%_, _<_}
 use lib.Dec.{eqb}
 use lib.Bits.{bitOr}
 use borrow.Author.Tests.{eqb-true}
 use Rattle.squares.specs.Tests.{_and_, _or_}
 use Rattle.squares.specs.Squares.{has, upTo, setOf, allTo, leftOfOne, rightOfOne}
+use Rattle.scene.specs.Chess.{fileSet, adjacentFiles}
 use Rattle.squares.proofs.Comprehension.{or-setOf}
 use Rattle.squares.proofs.Every.{all-at}
-use Rattle.scene.specs.Chess.{fileSet, adjacentFiles}
 
 -- the squares to the left and to the right of a file's
 sideways : ℕ → ℕ

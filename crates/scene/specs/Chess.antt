@@ -1,5 +1,4 @@
 -- What the Rust asks of the crate `chess`, in the words of squares and geometry. Sets of squares; everything here computes on numerals.
-use mathlib.Core.Bool.{Bool}
 use Prim.Native.Nat.{ℕ, _+_, _-_, _%_}
 use lib.Dec.{eqb}
 use Rattle.squares.specs.Squares.{file, rank, setOf}

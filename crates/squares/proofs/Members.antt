@@ -4,13 +4,12 @@ use mathlib.Core.Path.{_≡_, refl, sym, ap, ap₂, _∙_, subst}
 use mathlib.Core.Logic.{_⊎_, inl, inr, ⊎-elim}
 use mathlib.Core.Bool.{Bool, true, false, not, cond}
 use mathlib.Core.List.{List, [], _∷_, _++_}
-use Prim.Native.Nat.{ℕ, zero, suc, _+_, _-_, _%_, _^_, _<_, _≤_}
+use Prim.Native.Nat.{ℕ, zero, suc, _%_, _^_, _<_, _≤_}
 use native.Mathlib.Nat.{le-refl, le-suc, le-trans, lt-trans, mod-eq-of-lt, not-suc-le-zero, zero-lt-suc}
 use native.Mathlib.Omega.{arith}
-use lib.Dec.{eqb}
 use borrow.Author.Tests.{eq-eqb, ne-eqb}
 use Rattle.squares.specs.Tests.{_and_}
-use Rattle.squares.specs.Squares.{has, setOf, besides, Least, LeastOr64}
+use Rattle.squares.specs.Squares.{has, setOf, besides, LeastOr64}
 use Rattle.squares.specs.Members.{listTo, members, headOr, firstOf, forEach}
 use Rattle.squares.proofs.Testing.{order, and-true, and-false}
 use Rattle.squares.proofs.Digits.{has-zero}

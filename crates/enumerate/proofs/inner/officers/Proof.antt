@@ -1,39 +1,28 @@
-use Rattle.roll.proofs.Pushing.{pushed-both}
-use Rattle.enumerate.specs.Lists.{officersOf}
+-- `enumerate::inner::officers` meets its contract.
 use borrow.Author.Needs.{needs}
+use Rattle.enumerate.specs.Lists.{officersOf}
+use Rattle.roll.proofs.Pushing.{pushed-both}
 use Rattle.enumerate.proofs.inner.officers.Statement.{statement}
 use Rattle.enumerate.proofs.inner.officers.Tie as tie
-use Rattle.enumerate.proofs.inner.officers.Reads as reads
-use Rattle.enumerate.proofs.inner.officers.Lts as lts
-use Rattle.kings.proofs.inner.legals.Reads as inner-legals-reads
-use Rattle.officers.proofs.inner.legals.Reads as inner-legals-reads′
-use Rattle.roll.proofs.inner.empty.Reads as empty-reads
 
--- src/inner.rt:115:9
 empty-requires : tie.Need-empty-requires
 empty-requires c κs = search needs
 
--- src/inner.rt:116:9
 legals-requires : tie.Need-legals-requires
 legals-requires c κs = search needs
 
--- src/inner.rt:117:9
 legals-requires-2 : tie.Need-legals-requires-2
 legals-requires-2 c κs = search needs
 
--- src/inner.rt:118:9
 legals-requires-3 : tie.Need-legals-requires-3
 legals-requires-3 c κs = search needs
 
--- src/inner.rt:119:9
 legals-requires-4 : tie.Need-legals-requires-4
 legals-requires-4 c κs = search needs
 
--- src/inner.rt:120:5
 legals-requires-5 : tie.Need-legals-requires-5
 legals-requires-5 c κs = search needs
 
--- src/inner.rt:111:1
 returns : tie.Need-returns
 unfolding officersOf
 returns c = rw (c .legals5 .ensures, c .before .legals4 .ensures, c .before .before .legals3 .ensures, c .before .before .before .legals2 .ensures, c .before .before .before .before .legals .ensures, c .before .before .before .before .before .empty .ensures) (simp pushed-both)

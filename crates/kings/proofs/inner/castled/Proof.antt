@@ -1,47 +1,34 @@
+-- `kings::inner::castled` meets its contract.
+use borrow.Author.Needs.{needs}
 use Rattle.squares.specs.Tests.{_and_, _or_}
 use Rattle.kings.specs.Kings.{castledOf}
-use borrow.Author.Needs.{needs}
 use Rattle.kings.proofs.inner.castled.Statement.{statement}
 use Rattle.kings.proofs.inner.castled.Tie as tie
-use Rattle.kings.proofs.inner.castled.Reads as reads
-use Rattle.kings.proofs.inner.castled.Lts as lts
-use Rattle.kings.proofs.inner.safe.Reads as safe-reads
-use Rattle.squares.proofs.has.Reads as has-reads
-use Rattle.tables.proofs.inner.get_rook_moves.Reads as get-rook-moves-reads
 
--- src/inner.rt:90:31
 element-copy-out-has : tie.Need-element-copy-out-has
 element-copy-out-has c = search needs
 
--- src/inner.rt:90:9
 has-requires : tie.Need-has-requires
 has-requires c κs = search needs
 
--- src/inner.rt:91:9
 has-requires-2 : tie.Need-has-requires-2
 has-requires-2 c κs = search needs
 
--- src/inner.rt:92:9
 has-requires-3 : tie.Need-has-requires-3
 has-requires-3 c κs = search needs
 
--- src/inner.rt:93:9
 safe-requires : tie.Need-safe-requires
 safe-requires c κs = search needs
 
--- src/inner.rt:94:9
 get-rook-moves-requires : tie.Need-get-rook-moves-requires
 get-rook-moves-requires c κs = search needs
 
--- src/inner.rt:95:9
 has-requires-4 : tie.Need-has-requires-4
 has-requires-4 c κs = search needs
 
--- src/inner.rt:96:9
 has-requires-5 : tie.Need-has-requires-5
 has-requires-5 c κs = search needs
 
--- src/inner.rt:86:1
 returns : tie.Need-returns
 unfolding castledOf _and_ _or_
 returns c = rw (c .has5 .ensures, c .before .has4 .ensures, c .before .before .get-rook-moves .ensures, c .before .before .before .safe .ensures, c .before .before .before .before .has3 .ensures, c .before .before .before .before .before .has2 .ensures, c .before .before .before .before .before .before .has .ensures)

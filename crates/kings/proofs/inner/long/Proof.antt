@@ -1,43 +1,31 @@
+-- `kings::inner::long` meets its contract.
+use borrow.Author.Needs.{needs}
 use Rattle.squares.specs.Tests.{_and_}
 use Rattle.kings.specs.Kings.{longOf}
-use borrow.Author.Needs.{needs}
 use Rattle.kings.proofs.inner.long.Statement.{statement}
 use Rattle.kings.proofs.inner.long.Tie as tie
-use Rattle.kings.proofs.inner.long.Reads as reads
-use Rattle.kings.proofs.inner.long.Lts as lts
-use Rattle.kings.proofs.inner.castled.Reads as castled-reads
-use Rattle.scene.proofs.inner.home_square.Reads as home-square-reads
-use Rattle.squares.proofs.has.Reads as has-reads
 
--- src/inner.rt:118:9
 home-square-requires : tie.Need-home-square-requires
 home-square-requires c κs = search needs
 
--- src/inner.rt:119:9
 home-square-requires-2 : tie.Need-home-square-requires-2
 home-square-requires-2 c κs = search needs
 
--- src/inner.rt:120:9
 home-square-requires-3 : tie.Need-home-square-requires-3
 home-square-requires-3 c κs = search needs
 
--- src/inner.rt:121:9
 home-square-requires-4 : tie.Need-home-square-requires-4
 home-square-requires-4 c κs = search needs
 
--- src/inner.rt:122:9
 home-square-requires-5 : tie.Need-home-square-requires-5
 home-square-requires-5 c κs = search needs
 
--- src/inner.rt:123:9
 has-requires : tie.Need-has-requires
 has-requires c κs = search needs
 
--- src/inner.rt:124:9
 castled-requires : tie.Need-castled-requires
 castled-requires c κs = search needs
 
--- src/inner.rt:113:1
 returns : tie.Need-returns
 unfolding longOf _and_
 returns c = rw (c .before .castled .ensures, c .before .before .has .ensures, c .before .before .before .home-square5 .ensures .0, c .before .before .before .before .home-square4 .ensures .0, c .before .before .before .before .before .home-square3 .ensures .0, c .before .before .before .before .before .before .home-square2 .ensures .0, c .before .before .before .before .before .before .before .home-square .ensures .0)

@@ -1,34 +1,25 @@
+-- `kings::inner::short` meets its contract.
+use borrow.Author.Needs.{needs}
 use Rattle.squares.specs.Tests.{_and_}
 use Rattle.kings.specs.Kings.{shortOf}
-use borrow.Author.Needs.{needs}
 use Rattle.kings.proofs.inner.short.Statement.{statement}
 use Rattle.kings.proofs.inner.short.Tie as tie
-use Rattle.kings.proofs.inner.short.Reads as reads
-use Rattle.kings.proofs.inner.short.Lts as lts
-use Rattle.kings.proofs.inner.castled.Reads as castled-reads
-use Rattle.scene.proofs.inner.home_square.Reads as home-square-reads
 
--- src/inner.rt:105:9
 home-square-requires : tie.Need-home-square-requires
 home-square-requires c κs = search needs
 
--- src/inner.rt:106:9
 home-square-requires-2 : tie.Need-home-square-requires-2
 home-square-requires-2 c κs = search needs
 
--- src/inner.rt:107:9
 home-square-requires-3 : tie.Need-home-square-requires-3
 home-square-requires-3 c κs = search needs
 
--- src/inner.rt:108:9
 home-square-requires-4 : tie.Need-home-square-requires-4
 home-square-requires-4 c κs = search needs
 
--- src/inner.rt:109:9
 castled-requires : tie.Need-castled-requires
 castled-requires c κs = search needs
 
--- src/inner.rt:100:1
 returns : tie.Need-returns
 unfolding shortOf _and_
 returns c = rw (c .before .castled .ensures, c .before .before .home-square4 .ensures .0, c .before .before .before .home-square3 .ensures .0, c .before .before .before .before .home-square2 .ensures .0, c .before .before .before .before .before .home-square .ensures .0)

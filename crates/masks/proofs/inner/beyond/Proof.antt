@@ -1,26 +1,20 @@
+-- `masks::inner::beyond` meets its contract.
 use native.Mathlib.Omega.{arith}
+use borrow.Author.Needs.{needs}
 use Rattle.squares.specs.Squares.{has}
 use Rattle.squares.proofs.Counting.{count-le}
-use borrow.Author.Needs.{needs}
 use Rattle.masks.proofs.inner.beyond.Statement.{statement}
 use Rattle.masks.proofs.inner.beyond.Tie as tie
-use Rattle.masks.proofs.inner.beyond.Reads as reads
-use Rattle.masks.proofs.inner.beyond.Lts as lts
-use Rattle.squares.proofs.count.Reads as count-reads
 
--- src/inner.rt:29:9
 count-requires : tie.Need-count-requires
 count-requires c κs = search needs
 
--- src/inner.rt:30:16
 sub-result : tie.Need-sub-result
 sub-result c = search needs
 
--- src/inner.rt:26:1
 returns : tie.Need-returns
 returns c = (rw (c .before .count .ensures), omega (arith, c .before .count .ensures, count-le 64 (has (c .before .before .args .s))))
 
--- src/inner.rt:26:1
 returns-2 : tie.Need-returns-2
 returns-2 c = search needs
 

@@ -1,12 +1,10 @@
+-- `masks::inner::dark_squares` meets its contract.
 use mathlib.Core.Path.{refl}
 use Rattle.squares.specs.Squares.{upTo}
 use Rattle.masks.specs.Masks.{darkSquares}
 use Rattle.masks.proofs.inner.dark_squares.Statement.{statement}
 use Rattle.masks.proofs.inner.dark_squares.Tie as tie
-use Rattle.masks.proofs.inner.dark_squares.Reads as reads
-use Rattle.masks.proofs.inner.dark_squares.Lts as lts
 
--- src/inner.rt:13:1
 returns : tie.Need-returns
 unfolding darkSquares upTo
 returns c = refl

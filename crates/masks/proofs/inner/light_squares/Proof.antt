@@ -1,12 +1,10 @@
+-- `masks::inner::light_squares` meets its contract.
 use mathlib.Core.Path.{refl}
 use Rattle.squares.specs.Squares.{upTo}
 use Rattle.masks.specs.Masks.{lightSquares}
 use Rattle.masks.proofs.inner.light_squares.Statement.{statement}
 use Rattle.masks.proofs.inner.light_squares.Tie as tie
-use Rattle.masks.proofs.inner.light_squares.Reads as reads
-use Rattle.masks.proofs.inner.light_squares.Lts as lts
 
--- src/inner.rt:7:1
 returns : tie.Need-returns
 unfolding lightSquares upTo
 returns c = refl

@@ -1,27 +1,20 @@
+-- `masks::inner::masks_for` meets its contract.
 use borrow.Author.Tests.{lt-ltb, le-ltb}
-use Rattle.masks.specs.Masks.{masksFor}
 use borrow.Author.Needs.{needs}
+use Rattle.masks.specs.Masks.{masksFor}
 use Rattle.masks.proofs.inner.masks_for.Statement.{statement}
 use Rattle.masks.proofs.inner.masks_for.Tie as tie
-use Rattle.masks.proofs.inner.masks_for.Reads as reads
-use Rattle.masks.proofs.inner.masks_for.Lts as lts
-use Rattle.masks.proofs.inner.masks_at.Reads as masks-at-reads
-use Rattle.masks.proofs.inner.souls.Reads as souls-reads
 
--- src/inner.rt:84:9
 souls-requires : tie.Need-souls-requires
 souls-requires c κs = search needs
 
--- src/inner.rt:86:9
 returns : tie.Need-returns
 unfolding masksFor
 returns c = rw (← c .before .souls .ensures, lt-ltb _ _ (c .if1 .taken))
 
--- src/inner.rt:88:5
 masks-at-requires : tie.Need-masks-at-requires
 masks-at-requires c κs = search needs
 
--- src/inner.rt:81:1
 returns-2 : tie.Need-returns-2
 unfolding masksFor
 returns-2 c = rw (c .masks-at .ensures, ← c .before .before .souls .ensures, le-ltb _ _ (c .before .if1 .left))

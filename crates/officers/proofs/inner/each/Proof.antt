@@ -1,3 +1,4 @@
+-- `officers::inner::each` meets its contract.
 use Prim.Native.Nat.{ℕ}
 use native.Mathlib.Omega.{arith}
 use borrow.Author.Needs.{needs}
@@ -8,11 +9,6 @@ use Rattle.squares.proofs.Members.{going-starts, going-less, going-on}
 use Rattle.roll.proofs.Pushing.{Pushing, pushing-done}
 use Rattle.officers.proofs.inner.each.Statement.{statement}
 use Rattle.officers.proofs.inner.each.Tie as tie
-use Rattle.officers.proofs.inner.each.Reads as reads
-use Rattle.officers.proofs.inner.each.Lts as lts
-use Rattle.officers.proofs.inner.from.Reads as from-reads
-use Rattle.squares.proofs.lowest.Reads as lowest-reads
-use Rattle.squares.proofs.without.Reads as without-reads
 
 abbrev Inv-loop : tie.InvT-loop
 Inv-loop t s kind allowed set out₀ left₀ out left = Pushing (fromOf s kind allowed) out₀ set out left
@@ -20,31 +16,24 @@ Inv-loop t s kind allowed set out₀ left₀ out left = Pushing (fromOf s kind a
 abbrev μ-loop : tie.MeasureT-loop
 μ-loop t s kind allowed set out₀ left₀ out left = left
 
--- src/inner.rt:89:5
 loop-holds : tie.Need-loop-holds Inv-loop μ-loop
 loop-holds c = going-starts (λ (l : RetractionList) (k : ℕ). pushedAll l (fromOf (c .args .s) (c .args .kind) (c .args .allowed) k)) (c .args .list) (c .fits .set .fits)
 
--- src/inner.rt:90:13
 lowest-requires : tie.Need-lowest-requires Inv-loop μ-loop
 lowest-requires c κs = search needs
 
--- src/inner.rt:91:9
 from-requires : tie.Need-from-requires Inv-loop μ-loop
 from-requires c κs = (c .before .before .before .pre, c .lowest .ensures .some (omega arith) .0)
 
--- src/inner.rt:92:9
 without-requires : tie.Need-without-requires Inv-loop μ-loop
 without-requires c κs = search needs
 
--- src/inner.rt:89:5
 loop-less : tie.Need-loop-less Inv-loop μ-loop
 loop-less c = going-less _ _ _ (c .before .before .before .before .loop .inv .fits) (c .before .before .before .loop-test .taken) (c .before .before .lowest .ensures) (c .without .ensures)
 
--- src/inner.rt:89:5
 loop-again : tie.Need-loop-again Inv-loop μ-loop
 loop-again c = going-on (c .before .before .before .before .loop .inv) (c .before .before .before .loop-test .taken) (c .before .before .lowest .ensures) (c .before .from .ensures) (c .without .ensures)
 
--- src/inner.rt:76:1
 returns : tie.Need-returns Inv-loop μ-loop
 unfolding eachOf
 returns c = pushing-done (fromOf (c .before .before .args .s) (c .before .before .args .kind) (c .before .before .args .allowed)) (c .before .loop .inv) (c .loop-test .left)

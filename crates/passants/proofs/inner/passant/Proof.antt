@@ -1,46 +1,33 @@
+-- `passants::inner::passant` meets its contract.
+use borrow.Author.Needs.{needs}
 use Rattle.squares.specs.Tests.{_or_}
 use Rattle.roll.specs.Roll.{pushedAll}
 use Rattle.passants.specs.Passants.{passantOf}
-use borrow.Author.Needs.{needs}
 use Rattle.passants.proofs.inner.passant.Statement.{statement}
 use Rattle.passants.proofs.inner.passant.Tie as tie
-use Rattle.passants.proofs.inner.passant.Reads as reads
-use Rattle.passants.proofs.inner.passant.Lts as lts
-use Rattle.geometry.proofs.other.Reads as other-reads
-use Rattle.passants.proofs.inner.passant_at.Reads as passant-at-reads
-use Rattle.scene.proofs.inner.ubackward.Reads as ubackward-reads
-use Rattle.squares.proofs.has.Reads as has-reads
 
--- src/inner.rt:128:9
 other-requires : tie.Need-other-requires
 other-requires c κs = search needs
 
--- src/inner.rt:129:9
 ubackward-requires : tie.Need-ubackward-requires
 ubackward-requires c κs = search needs
 
--- src/inner.rt:130:9
 ubackward-requires-2 : tie.Need-ubackward-requires-2
 ubackward-requires-2 c κs = search needs
 
--- src/inner.rt:131:9
 has-requires : tie.Need-has-requires
 has-requires c κs = search needs
 
--- src/inner.rt:132:9
 has-requires-2 : tie.Need-has-requires-2
 has-requires-2 c κs = search needs
 
--- src/inner.rt:134:9
 returns : tie.Need-returns
 unfolding passantOf pushedAll _or_
 returns c = rw (rw (c .before .has2 .ensures, c .before .before .has .ensures, c .before .before .before .ubackward2 .ensures .0, c .before .before .before .before .ubackward .ensures .0, c .before .before .before .before .before .other .ensures) at (c .if1 .taken))
 
--- src/inner.rt:136:5
 passant-at-requires : tie.Need-passant-at-requires
 passant-at-requires c κs = search needs
 
--- src/inner.rt:123:1
 returns-2 : tie.Need-returns-2
 unfolding passantOf _or_
 returns-2 c = rw (c .passant-at .ensures, c .before .before .before .before .ubackward2 .ensures .0, rw (c .before .before .has2 .ensures, c .before .before .before .has .ensures, c .before .before .before .before .ubackward2 .ensures .0, c .before .before .before .before .before .ubackward .ensures .0, c .before .before .before .before .before .before .other .ensures) at (c .before .if1 .left))

@@ -1,18 +1,13 @@
-use Prim.Native.Nat.{ℕ}
-use lib.Bits.{bitOr}
-use native.Mathlib.Omega.{arith}
-use borrow.Author.Needs.{needs}
+-- `passants::inner::rays` meets its contract.
 use mathlib.Core.Path.{ap}
+use native.Mathlib.Omega.{arith}
+use lib.Bits.{bitOr}
+use borrow.Author.Needs.{needs}
 use Rattle.geometry.specs.Lines.{betweenOf}
 use Rattle.passants.specs.Passants.{raysOf}
 use Rattle.squares.proofs.Members.{Going, going-starts, going-less, going-on, going-done}
 use Rattle.passants.proofs.inner.rays.Statement.{statement}
 use Rattle.passants.proofs.inner.rays.Tie as tie
-use Rattle.passants.proofs.inner.rays.Reads as reads
-use Rattle.passants.proofs.inner.rays.Lts as lts
-use Rattle.squares.proofs.lowest.Reads as lowest-reads
-use Rattle.squares.proofs.without.Reads as without-reads
-use Rattle.tables.proofs.inner.between.Reads as between-reads
 
 abbrev Inv-loop : tie.InvT-loop
 Inv-loop t oppking set out₀ left₀ out left = Going (λ rays checker. bitOr rays (betweenOf checker oppking)) 0 set out left
@@ -20,31 +15,24 @@ Inv-loop t oppking set out₀ left₀ out left = Going (λ rays checker. bitOr r
 abbrev μ-loop : tie.MeasureT-loop
 μ-loop t oppking set out₀ left₀ out left = left
 
--- src/inner.rt:51:5
 loop-holds : tie.Need-loop-holds Inv-loop μ-loop
 loop-holds c = going-starts (λ rays checker. bitOr rays (betweenOf checker (c .args .oppking))) 0 (c .fits .set .fits)
 
--- src/inner.rt:52:13
 lowest-requires : tie.Need-lowest-requires Inv-loop μ-loop
 lowest-requires c κs = search needs
 
--- src/inner.rt:53:21
 between-requires : tie.Need-between-requires Inv-loop μ-loop
 between-requires c κs = (c .before .before .before .pre .0, c .lowest .ensures .some (omega arith) .0, c .before .before .before .pre .1)
 
--- src/inner.rt:54:9
 without-requires : tie.Need-without-requires Inv-loop μ-loop
 without-requires c κs = search needs
 
--- src/inner.rt:51:5
 loop-less : tie.Need-loop-less Inv-loop μ-loop
 loop-less c = going-less _ _ _ (c .before .before .before .before .loop .inv .fits) (c .before .before .before .loop-test .taken) (c .before .before .lowest .ensures) (c .without .ensures)
 
--- src/inner.rt:51:5
 loop-again : tie.Need-loop-again Inv-loop μ-loop
 loop-again c = going-on (c .before .before .before .before .loop .inv) (c .before .before .before .loop-test .taken) (c .before .before .lowest .ensures) (ap (bitOr (c .before .before .before .before .loop .out)) (c .before .between .ensures)) (c .without .ensures)
 
--- src/inner.rt:45:1
 returns : tie.Need-returns Inv-loop μ-loop
 unfolding raysOf
 returns c = going-done (c .before .loop .inv) (c .loop-test .left)

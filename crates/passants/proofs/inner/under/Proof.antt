@@ -1,32 +1,24 @@
+-- `passants::inner::under` meets its contract.
 use borrow.Author.Tests.{eq-eqb, ne-eqb}
-use Rattle.passants.specs.Passants.{underOf}
 use borrow.Author.Needs.{needs}
+use Rattle.passants.specs.Passants.{underOf}
 use Rattle.passants.proofs.inner.under.Statement.{statement}
 use Rattle.passants.proofs.inner.under.Tie as tie
-use Rattle.passants.proofs.inner.under.Reads as reads
-use Rattle.passants.proofs.inner.under.Lts as lts
-use Rattle.passants.proofs.inner.under_one.Reads as under-one-reads
-use Rattle.passants.proofs.inner.under_two.Reads as under-two-reads
 
--- src/inner.rt:98:9
 under-one-requires : tie.Need-under-one-requires
 under-one-requires c κs = search needs
 
--- src/inner.rt:98:9
 returns : tie.Need-returns
 unfolding underOf
 returns c = rw (eq-eqb _ _ (c .before .if1 .taken)) (c .under-one .ensures)
 
--- src/inner.rt:101:9
 under-two-requires : tie.Need-under-two-requires
 under-two-requires c κs = search needs
 
--- src/inner.rt:101:9
 returns-2 : tie.Need-returns-2
 unfolding underOf
 returns-2 c = rw (ne-eqb _ _ (c .before .before .if1 .left), eq-eqb _ _ (c .before .if2 .taken)) (c .under-two .ensures)
 
--- src/inner.rt:93:1
 returns-3 : tie.Need-returns-3
 unfolding underOf
 returns-3 c = rw (ne-eqb _ _ (c .before .if1 .left), ne-eqb _ _ (c .if2 .left))

@@ -1,32 +1,23 @@
+-- `passants::inner::under_one` meets its contract.
+use borrow.Author.Needs.{needs}
 use Rattle.squares.specs.Tests.{_and_}
 use Rattle.passants.specs.Passants.{underOne}
-use borrow.Author.Needs.{needs}
 use Rattle.passants.proofs.inner.under_one.Statement.{statement}
 use Rattle.passants.proofs.inner.under_one.Tie as tie
-use Rattle.passants.proofs.inner.under_one.Reads as reads
-use Rattle.passants.proofs.inner.under_one.Lts as lts
-use Rattle.scene.proofs.inner.to_square.Reads as to-square-reads
-use Rattle.squares.proofs.has.Reads as has-reads
-use Rattle.tables.proofs.inner.between.Reads as between-reads
 
--- src/inner.rt:35:9
 to-square-requires : tie.Need-to-square-requires
 to-square-requires c κs = search needs
 
--- src/inner.rt:36:9
 between-requires : tie.Need-between-requires
 between-requires c κs = search needs
 
--- src/inner.rt:37:9
 has-requires : tie.Need-has-requires
 has-requires c κs = search needs
 
--- src/inner.rt:39:9
 returns : tie.Need-returns
 unfolding underOne _and_
 returns c = rw (c .before .before .between .ensures, c .before .before .before .to-square .ensures .0, rw (c .before .has .ensures, c .before .before .between .ensures, c .before .before .before .to-square .ensures .0) at (c .if1 .taken))
 
--- src/inner.rt:31:1
 returns-2 : tie.Need-returns-2
 unfolding underOne _and_
 returns-2 c = rw (rw (c .before .has .ensures, c .before .before .between .ensures, c .before .before .before .to-square .ensures .0) at (c .if1 .left))

@@ -1,35 +1,25 @@
-use Rattle.pawns.specs.Pawns.{crossedOf}
+-- `pawns::inner::crossing` meets its contract.
 use borrow.Author.Needs.{needs}
+use Rattle.pawns.specs.Pawns.{crossedOf}
 use Rattle.pawns.proofs.inner.crossing.Statement.{statement}
 use Rattle.pawns.proofs.inner.crossing.Tie as tie
-use Rattle.pawns.proofs.inner.crossing.Reads as reads
-use Rattle.pawns.proofs.inner.crossing.Lts as lts
-use Rattle.pawns.proofs.inner.doubled.Reads as doubled-reads
-use Rattle.scene.proofs.inner.ubackward.Reads as ubackward-reads
-use Rattle.squares.proofs.bit.Reads as bit-reads
 
--- src/inner.rt:76:9
 bit-requires : tie.Need-bit-requires
 bit-requires c κs = search needs
 
--- src/inner.rt:77:9
 ubackward-requires : tie.Need-ubackward-requires
 ubackward-requires c κs = search needs
 
--- src/inner.rt:78:9
 bit-requires-2 : tie.Need-bit-requires-2
 bit-requires-2 c κs = search needs
 
--- src/inner.rt:79:8
 doubled-requires : tie.Need-doubled-requires
 doubled-requires c κs = search needs
 
--- src/inner.rt:80:9
 returns : tie.Need-returns
 unfolding crossedOf
 returns c = rw (c .before .before .before .before .bit .ensures, c .before .before .bit2 .ensures, c .before .before .before .ubackward .ensures .0, ← c .before .doubled .ensures, c .if1 .taken)
 
--- src/inner.rt:71:1
 returns-2 : tie.Need-returns-2
 unfolding crossedOf
 returns-2 c = rw (c .before .before .before .before .bit .ensures, ← c .before .doubled .ensures, c .if1 .left)

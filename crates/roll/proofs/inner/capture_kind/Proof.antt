@@ -1,15 +1,12 @@
+-- `roll::inner::capture_kind` meets its contract.
 use Rattle.roll.specs.Roll.{captureKind}
 use Rattle.roll.proofs.inner.capture_kind.Statement.{statement}
 use Rattle.roll.proofs.inner.capture_kind.Tie as tie
-use Rattle.roll.proofs.inner.capture_kind.Reads as reads
-use Rattle.roll.proofs.inner.capture_kind.Lts as lts
 
--- src/inner.rt:92:1
 returns : tie.Need-returns
 unfolding captureKind
 returns c = rw (c .if1 .taken)
 
--- src/inner.rt:92:1
 returns-2 : tie.Need-returns-2
 unfolding captureKind
 returns-2 c = rw (c .if1 .left)

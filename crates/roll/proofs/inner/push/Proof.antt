@@ -1,29 +1,23 @@
+-- `roll::inner::push` meets its contract.
 use borrow.Author.Tests.{le-leb, lt-leb}
-use Rattle.roll.specs.Roll.{pushed}
 use borrow.Author.Needs.{needs}
+use Rattle.roll.specs.Roll.{pushed}
 use Rattle.roll.proofs.inner.push.Statement.{statement}
 use Rattle.roll.proofs.inner.push.Tie as tie
-use Rattle.roll.proofs.inner.push.Reads as reads
-use Rattle.roll.proofs.inner.push.Lts as lts
 
--- src/inner.rt:50:9
 returns : tie.Need-returns
 unfolding pushed
 returns c = simp (le-leb _ _ (c .if1 .taken))
 
--- src/inner.rt:52:5
 mul-e : tie.Need-mul-e
 mul-e c = search needs
 
--- src/inner.rt:52:5
 element-set-from-e : tie.Need-element-set-from-e
 element-set-from-e c = search needs
 
--- src/inner.rt:53:15
 add-out : tie.Need-add-out
 add-out c = search needs
 
--- src/inner.rt:43:1
 returns-2 : tie.Need-returns-2
 unfolding pushed
 returns-2 c = simp (lt-leb _ _ (c .if1 .left))

@@ -1,27 +1,21 @@
+-- `scene::inner::home_square` meets its contract.
 use native.Mathlib.Omega.{arith}
 use borrow.Author.Needs.{needs}
 use Rattle.scene.proofs.inner.home_square.Statement.{statement}
 use Rattle.scene.proofs.inner.home_square.Tie as tie
-use Rattle.scene.proofs.inner.home_square.Reads as reads
-use Rattle.scene.proofs.inner.home_square.Lts as lts
 
--- src/inner.rt:50:25
 enum-told : tie.Need-enum-told
 enum-told c = search needs
 
--- src/inner.rt:51:25
 enum-told-2 : tie.Need-enum-told-2
 enum-told-2 c = search needs
 
--- src/inner.rt:51:25
 add-result : tie.Need-add-result
 add-result c = search needs
 
--- src/inner.rt:45:1
 returns : tie.Need-returns
 returns c = search needs
 
--- src/inner.rt:45:1
 returns-2 : tie.Need-returns-2
 returns-2 c = (rw (c .enum-told2 .given .1), omega arith)
 

@@ -1,26 +1,20 @@
+-- `scene::inner::own_rank` meets its contract.
 use borrow.Author.Needs.{needs}
 use Rattle.scene.proofs.inner.own_rank.Statement.{statement}
 use Rattle.scene.proofs.inner.own_rank.Tie as tie
-use Rattle.scene.proofs.inner.own_rank.Reads as reads
-use Rattle.scene.proofs.inner.own_rank.Lts as lts
 
--- src/inner.rt:39:25
 enum-told : tie.Need-enum-told
 enum-told c = search needs
 
--- src/inner.rt:40:25
 enum-told-2 : tie.Need-enum-told-2
 enum-told-2 c = search needs
 
--- src/inner.rt:40:25
 sub-result : tie.Need-sub-result
 sub-result c = search needs
 
--- src/inner.rt:34:1
 returns : tie.Need-returns
 returns c = search needs
 
--- src/inner.rt:34:1
 returns-2 : tie.Need-returns-2
 returns-2 c = rw (c .enum-told2 .given .1)
 
