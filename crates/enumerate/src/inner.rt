@@ -19,8 +19,7 @@ fn lesser(t: &[u64; 4096], s: Scene, n: u32) -> RetractionList
     ensures { λ r. ⌜ r ≡ pushedAll (holding []) (lesserOf s n) ⌝ }
 {
     let none = roll::inner::empty();
-    let a = passants::inner::legals(none, t, s, n);
-    let b = officers::inner::legals(a, t, s, n, 1);
+    let b = officers::inner::legals(passants::inner::legals(none, t, s, n), t, s, n, 1);
     let c = officers::inner::legals(b, t, s, n, 2);
     officers::inner::legals(c, t, s, n, 3)
 }

@@ -62,10 +62,8 @@ fn one_of_two(t: &[u64; 4096], s: Scene, other: u8, reborn: u8, targets: u64) ->
     ensures { λ r. ⌜ r ≡ oneOfTwo s other reborn targets ⌝ }
 {
     let ray = tables::inner::between(t, other, s.oppking);
-    if squares::has(ray, reborn) {
-        return targets & ray;
-    }
-    targets
+    let blocks = squares::has(ray, reborn);
+    squares::choose(blocks, targets & ray, targets)
 }
 
 // Two checkers beside the man on src.

@@ -10,13 +10,12 @@ between-requires c κs = search needs
 has-requires : tie.Need-has-requires
 has-requires c κs = search needs
 
+choose-requires : tie.Need-choose-requires
+choose-requires c κs = search needs
+
 returns : tie.Need-returns
 unfolding oneOfTwo
-returns c = rw (c .before .before .between .ensures, rw (c .before .has .ensures, c .before .before .between .ensures) at (c .if1 .taken))
-
-returns-2 : tie.Need-returns-2
-unfolding oneOfTwo
-returns-2 c = rw (rw (c .before .has .ensures, c .before .before .between .ensures) at (c .if1 .left))
+returns c = rw (c .choose .ensures, c .before .has .ensures, c .before .before .between .ensures)
 
 pub one-of-two-spec : {M : Type 1} → statement M
-one-of-two-spec = tie.close (tie.spec between-requires has-requires returns returns-2)
+one-of-two-spec = tie.close (tie.spec between-requires has-requires choose-requires returns)

@@ -7,7 +7,7 @@ use Rattle.roll.proofs.inner.push.Tie as tie
 
 returns : tie.Need-returns
 unfolding pushed
-returns c = simp (le-leb _ _ (c .if1 .taken))
+returns c = simp (le-leb 47 _ (c .if1 .taken))
 
 mul-e : tie.Need-mul-e
 mul-e c = search needs
@@ -20,7 +20,7 @@ add-out c = search needs
 
 returns-2 : tie.Need-returns-2
 unfolding pushed
-returns-2 c = simp (lt-leb _ _ (c .if1 .left))
+returns-2 c = simp (lt-leb 47 _ (c .if1 .left))
 
 pub push-spec : {M : Type 1} → statement M
 push-spec = tie.close (tie.spec returns mul-e element-set-from-e add-out returns-2)
