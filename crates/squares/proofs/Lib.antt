@@ -8,3 +8,4 @@ pub mod Collect
 pub mod Shifts
 pub mod Singles
 pub mod Unions
+pub mod Members

@@ -1,0 +1,13 @@
+-- `masks::inner::dark_squares` meets its contract.
+use mathlib.Core.Path.{refl}
+use Rattle.squares.specs.Squares.{upTo}
+use Rattle.masks.specs.Masks.{darkSquares}
+use Rattle.masks.proofs.inner.dark_squares.Statement.{statement}
+use Rattle.masks.proofs.inner.dark_squares.Tie as tie
+
+returns : tie.Need-returns
+unfolding darkSquares upTo
+returns c = refl
+
+pub dark-squares-spec : {M : Type 1} → statement M
+dark-squares-spec = tie.close (tie.spec returns)

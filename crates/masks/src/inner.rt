@@ -1,0 +1,97 @@
+// The six masks, over the sets of the men of the side to move by kind.
+use geometry::Color;
+ghost use mathlib.Core.Path.{_≡_};
+ghost use Prim.Native.Nat.{_≤_};
+ghost use Rattle.masks.specs.Masks.{lightSquares, darkSquares, pawnSquares, beyondOf, soulsOf, keptOf, bishopsOf, masksAt, masksFor, masksOf};
+
+fn light_squares() -> u64
+    ensures { λ r. ⌜ r ≡ lightSquares ⌝ }
+{
+    0x55aa_55aa_55aa_55aa
+}
+
+fn dark_squares() -> u64
+    ensures { λ r. ⌜ r ≡ darkSquares ⌝ }
+{
+    0xaa55_aa55_aa55_aa55
+}
+
+fn pawn_squares() -> u64
+    ensures { λ r. ⌜ r ≡ pawnSquares ⌝ }
+{
+    0x00ff_ffff_ffff_ff00
+}
+
+// How many men of a set go beyond m.
+fn beyond(s: u64, m: u32) -> u32
+    ensures { λ r. ⌜ (r ≡ beyondOf s m) × (r ≤ 64) ⌝ }
+{
+    let n = squares::count(s);
+    if n > m { n - m } else { 0 }
+}
+
+fn souls(f: [u64; 6]) -> u32
+    ensures { λ r. ⌜ r ≡ soulsOf f ⌝ }
+{
+    let light = light_squares();
+    let dark = dark_squares();
+    let pawns = squares::count(f[0]);
+    let knights = beyond(f[1], 2);
+    let bright = beyond(f[2] & light, 1);
+    let shady = beyond(f[2] & dark, 1);
+    let rooks = beyond(f[3], 2);
+    let queens = beyond(f[4], 1);
+    pawns + (knights + bright + shady + rooks + queens)
+}
+
+// A kind's squares; none where the souls are spent and the kind has m men or more.
+fn kept(spent: bool, s: u64, m: u32) -> u64
+    ensures { λ r. ⌜ r ≡ keptOf spent s m ⌝ }
+{
+    let n = squares::count(s);
+    squares::choose(spent & (n >= m), 0, 0xffff_ffff_ffff_ffff)
+}
+
+// The squares of the shades that no bishop stands on.
+fn bishops(s: u64) -> u64
+    ensures { λ r. ⌜ r ≡ bishopsOf s ⌝ }
+{
+    let light = light_squares();
+    let dark = dark_squares();
+    let d = squares::count(s & dark);
+    let l = squares::count(s & light);
+    let a = squares::choose(d >= 1, light, 0xffff_ffff_ffff_ffff);
+    let b = squares::choose(l >= 1, dark, 0xffff_ffff_ffff_ffff);
+    a & b
+}
+
+fn masks_at(f: [u64; 6], spent: bool) -> [u64; 6]
+    ensures { λ r. ⌜ r ≡ masksAt f spent ⌝ }
+{
+    let home = pawn_squares();
+    let pawns = squares::choose(spent, 0, home);
+    let knights = kept(spent, f[1], 2);
+    let some = bishops(f[2]);
+    let either = squares::choose(spent, some, 0xffff_ffff_ffff_ffff);
+    let rooks = kept(spent, f[3], 2);
+    let queens = kept(spent, f[4], 1);
+    [0xffff_ffff_ffff_ffff, pawns, knights, either, rooks, queens]
+}
+
+fn masks_for(f: [u64; 6]) -> [u64; 6]
+    ensures { λ r. ⌜ r ≡ masksFor f ⌝ }
+{
+    let n = souls(f);
+    if n > 8 {
+        return [0; 6];
+    }
+    masks_at(f, n == 8)
+}
+
+pub fn candidates(pieces: [u64; 6], colors: [u64; 2], turn: Color) -> [u64; 6]
+    ensures { λ r. ⌜ r ≡ masksOf pieces colors turn ⌝ }
+{
+    let side = scene::inner::color_set(colors, turn);
+    let f = scene::inner::among(pieces, side);
+    masks_for(f)
+}

@@ -1,0 +1,53 @@
+-- `officers::inner::each` meets its contract.
+use Prim.Native.Nat.{ℕ}
+use native.Mathlib.Omega.{arith}
+use borrow.Author.Needs.{needs}
+use Rattle.roll.specs.declared.RetractionList.{RetractionList}
+use Rattle.roll.specs.Roll.{pushedAll}
+use Rattle.officers.specs.Officers.{fromOf, eachOf}
+use Rattle.squares.proofs.Members.{going-starts, going-less, going-on}
+use Rattle.roll.proofs.Pushing.{Pushing, pushing-done}
+use Rattle.officers.proofs.inner.each.Statement.{statement}
+use Rattle.officers.proofs.inner.each.Tie as tie
+
+abbrev Inv-loop : tie.InvT-loop
+Inv-loop t s kind allowed set out₀ left₀ out left = Pushing (fromOf s kind allowed) out₀ set out left
+
+abbrev μ-loop : tie.MeasureT-loop
+μ-loop t s kind allowed set out₀ left₀ out left = left
+
+loop-holds : tie.Need-loop-holds Inv-loop μ-loop
+loop-holds c = going-starts (λ (l : RetractionList) (k : ℕ). pushedAll l (fromOf (c .args .s) (c .args .kind) (c .args .allowed) k)) (c .args .list) (c .fits .set .fits)
+
+lowest-requires : tie.Need-lowest-requires Inv-loop μ-loop
+lowest-requires c κs = search needs
+
+from-requires : tie.Need-from-requires Inv-loop μ-loop
+from-requires c κs = (c .before .before .before .pre, c .lowest .ensures .some (omega arith) .0)
+
+without-requires : tie.Need-without-requires Inv-loop μ-loop
+without-requires c κs = search needs
+
+loop-less : tie.Need-loop-less Inv-loop μ-loop
+loop-less c = going-less _ _ _ (c .before .before .before .before .loop .inv .fits) (c .before .before .before .loop-test .taken) (c .before .before .lowest .ensures) (c .without .ensures)
+
+loop-again : tie.Need-loop-again Inv-loop μ-loop
+loop-again c = going-on (c .before .before .before .before .loop .inv) (c .before .before .before .loop-test .taken) (c .before .before .lowest .ensures) (c .before .from .ensures) (c .without .ensures)
+
+returns : tie.Need-returns Inv-loop μ-loop
+unfolding eachOf
+returns c = pushing-done (fromOf (c .before .before .args .s) (c .before .before .args .kind) (c .before .before .args .allowed)) (c .before .loop .inv) (c .loop-test .left)
+
+pub each-spec : {M : Type 1} → statement M
+each-spec =
+    tie.close
+    (tie.spec
+    Inv-loop
+    μ-loop
+    loop-holds
+    lowest-requires
+    from-requires
+    without-requires
+    loop-less
+    loop-again
+    returns)

@@ -1,0 +1,15 @@
+-- `roll::inner::empty` meets its contract.
+use borrow.Author.Needs.{needs}
+use Rattle.roll.specs.Roll.{holding}
+use Rattle.roll.proofs.inner.empty.Statement.{statement}
+use Rattle.roll.proofs.inner.empty.Tie as tie
+
+no-entry-requires : tie.Need-no-entry-requires
+no-entry-requires c κs = search needs
+
+returns : tie.Need-returns
+unfolding holding
+returns c = rw (c .no-entry .ensures)
+
+pub empty-spec : {M : Type 1} → statement M
+empty-spec = tie.close (tie.spec no-entry-requires returns)

@@ -1,0 +1,2 @@
+pub mod Chess
+pub mod Scenes
