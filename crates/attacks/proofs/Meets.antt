@@ -65,7 +65,7 @@ own-kind m c Rook a b = refl
 own-kind m c Queen a b = shared (straight a b) (diagonal a b) (clear (bare m) a b)
 own-kind m c King a b = refl
 
-own-law : (m : Men) (c : Color) (x : Man) (a b : ℕ)
+pub own-law : (m : Men) (c : Color) (x : Man) (a b : ℕ)
     → (isOf c x and own x (pawnTakes c a b) (knightStep a b) (reaches diagonal (bare m) a b) (reaches straight (bare m) a b) (kingStep a b))
     ≡ (isOf c x and attacks m x a b)
 unfolding _and_

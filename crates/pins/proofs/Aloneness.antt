@@ -38,7 +38,7 @@ module _ (m : Men) (a q : ℕ) where
   has-mid : (k : ℕ) → k < 64 → has mid k ≡ (between a q k and not (isEmpty (m k)))
   has-mid k l = has-and (betweenOf a q) (unionOf m) k ∙ ap₂ _and_ (between-has a q k l) (has-setOf (λ j. not (isEmpty (m j))) k l)
 
-  alone-at : (k : ℕ) → k < 64 → alone m a q k ≡ (eqb (size mid) 1 and has mid k)
+  pub alone-at : (k : ℕ) → k < 64 → alone m a q k ≡ (eqb (size mid) 1 and has mid k)
   alone-at k l =
       ap (λ (t : Bool). not (isEmpty (m k)) and between a q k and t)
       (all-cong 64 (λ j. not (between a q j) or eqb j k or isEmpty (m j)) (others mid k)

@@ -106,7 +106,7 @@ checkers-is pieces colors c q ok k = is-upTo 64 _ (checks m c) (lt-of-le-of-lt (
         ∙ ap (λ (t : Bool). (isOf (opp c) (m a) and not (sameMan (m a) (man (opp c) King))) and t) (sym (any-king m c q (attacks m (m a) a) k))
 
 -- pins: the lines that the men move along, met with the kinds
-slide-law : (c : Color) (x : Man) (a q : ℕ) → (isOf c x and own x false false (diagonal a q) (straight a q) false) ≡ (isOf c x and slides x a q)
+pub slide-law : (c : Color) (x : Man) (a q : ℕ) → (isOf c x and own x false false (diagonal a q) (straight a q) false) ≡ (isOf c x and slides x a q)
 slide-law c empty a q = refl
 slide-law c (man d Pawn) a q = refl
 slide-law c (man d Knight) a q = refl

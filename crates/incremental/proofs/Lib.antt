@@ -1,0 +1,5 @@
+pub mod Xor
+pub mod Rays
+pub mod SamePins
+pub mod Stood
+pub mod SameCheckers
