@@ -18,11 +18,11 @@ use Rattle.roll.specs.declared.UnCaptureKind.the-variants.{Optional, Necessary,
 use Rattle.roll.specs.Roll.{entryOf, holding, fullList, answerOf, offered, captureKind}
 use Rattle.scene.specs.Chess.{adjacentFiles, backOf}
 use Rattle.scene.specs.Scenes.{castlingRooks, within, sceneOf}
+use Rattle.enumerate.specs.Lists.{lesserOf, kindsOf, byCheckers, namedOf, listedOf, listOf}
 use Rattle.officers.specs.Officers as officers
 use Rattle.pawns.specs.Pawns as pawns
 use Rattle.passants.specs.Passants as passants
 use Rattle.kings.specs.Kings as kings
-use Rattle.enumerate.specs.Lists.{lesserOf, kindsOf, byCheckers, namedOf, listedOf, listOf}
 
 -- the ported list of a board, and of the board with given sets, Black to move, no rights
 abbrev listFrom : Board → List SourceAndTargets
