@@ -57,7 +57,7 @@ unfoldable pub safeOf : Scene → ℕ → ℕ → Bool
 safeOf s rook e = not (attackedOf s rook) and not (attackedOf s e)
 
 -- what both un-castlings ask (567 to 574, 587 to 596): our rook stands on its square; e and the corner are empty; no attack; the rook on the
--- corner gives no check; there is no checker, or the rook is one
+-- corner gives no check; there is no checker, or the rook is one. The order of these tests says nothing
 unfoldable pub castledOf : Scene → ℕ → ℕ → ℕ → ℕ → Bool
 castledOf s n rook e corner =
     has (kindSet (s .men) Rook) rook and not (has (s .combined) e) and not (has (s .combined) corner) and safeOf s rook e

@@ -1,5 +1,6 @@
 -- The pawn's `legals`, un-en-passant (piece_type.rs, 285 to 345), with the number n of checkers: 0, 1, or 2. `reborn` is
--- `reappearing_pawn_square`, the square behind src. `x & s != EMPTY` of a single square x is `has s x`.
+-- `reappearing_pawn_square`, the square behind src. Where the Rust writes `a & b & c`, the same sets may be grouped otherwise here; `x & s != EMPTY` of
+-- a single square x is `has s x`.
 use mathlib.Core.Bool.{false, not, cond}
 use mathlib.Core.List.{List, [], _++_}
 use Prim.Native.Nat.{ℕ}

@@ -1,11 +1,13 @@
 -- A list that was filled from the empty one: where its flag is set it answers FULL, else it holds the entries.
-use mathlib.Core.Path.{_≡_, sym, ap, _∙_}
+use mathlib.Core.Path.{_≡_, refl, sym, ap, _∙_}
 use mathlib.Core.Bool.{Bool, true, false, cond}
 use mathlib.Core.Logic.{⊎-elim}
 use mathlib.Core.List.{List, []}
+use Prim.Native.Nat.{_≤_}
 use native.Mathlib.Omega.{arith}
 use lib.Dec.{ltb}
-use lib.ListN.{length}
+use lib.ListN.{length, take}
+use lib.Seq.{take-at}
 use borrow.Author.Tests.{lt-ltb, le-ltb, ltb-false}
 use Rattle.roll.specs.declared.SourceAndTargets.{SourceAndTargets}
 use Rattle.roll.specs.declared.RetractionList.{RetractionList}
@@ -31,3 +33,20 @@ unfolding answerOf
 is-held es e =
     let over : ltb 47 (length es) ≡ false = sym (flag-is es) ∙ e in
     all-fit es (ltb-false 47 (length es) over) ∙ sym (ap (λ (t : Bool). cond t fullList (holding es)) over)
+
+-- what an answer says: FULL exactly when there are more than 47 entries, and else its places up to the length are the entries
+pub answer-full : (es : List SourceAndTargets) → answerOf es .full ≡ ltb 47 (length es)
+unfolding answerOf holding fullList
+answer-full es = go (ltb 47 (length es))
+  where
+    go : (t : Bool) → cond t fullList (holding es) .full ≡ t
+    go true = refl
+    go false = refl
+
+pub answer-held : (es : List SourceAndTargets) → length es ≤ 47 → answerOf es ≡ holding es
+unfolding answerOf
+answer-held es h = ap (λ (t : Bool). cond t fullList (holding es)) (le-ltb 47 (length es) h)
+
+pub held-entries : (es : List SourceAndTargets) → take (holding es .len) (holding es .entries) ≡ es
+unfolding holding
+held-entries es = take-at es _ (length es) refl

@@ -4,6 +4,7 @@ use mathlib.Core.List.{List, [], _∷_, _++_}
 use Prim.Native.Nat.{ℕ, _+_, _-_}
 use lib.Dec.{eqb, leb, ltb}
 use lib.ListN.{length, set, replicate}
+use Rattle.squares.specs.Tests.{_and_}
 use Rattle.roll.specs.declared.UnCaptureKind.{UnCaptureKind}
 use Rattle.roll.specs.declared.UnCaptureKind.the-variants.{Optional, Necessary}
 use Rattle.roll.specs.declared.SourceAndTargets.{SourceAndTargets}
@@ -48,3 +49,8 @@ offered s t k u = cond (eqb t 0) [] (entryOf s t k u ∷ [])
 unfoldable pub captureKind : Bool → UnCaptureKind
 captureKind true = Necessary
 captureKind false = Optional
+
+-- every entry's source is a square
+unfoldable pub placed : List SourceAndTargets → Bool
+placed [] = true
+placed (e ∷ es) = ltb (e .source) 64 and placed es
