@@ -39,9 +39,9 @@ module _ (p : Position) where
     unfolding withMen
     then-men = ap menIn e ∙ men-shown m on
 
-    pub then-put : (s : ℕ) (x : Man) {r : Position} → r ≡ withMen q (put s x (menIn q)) → r ≡ withMen p (put s x m)
+    pub then-do : (f : Men → Men) {r : Position} → r ≡ withMen q (f (menIn q)) → r ≡ withMen p (f m)
     unfolding withMen
-    then-put s x h = h ∙ (λ i. withMen (e i) (put s x (then-men i)))
+    then-do f h = h ∙ (λ i. withMen (e i) (f (then-men i)))
 
 -- positions of the Laws
 module _ (p : Pos) (on : OnBoard (p .men)) where
