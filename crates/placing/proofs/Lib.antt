@@ -1,0 +1,2 @@
+pub mod Editing
+pub mod Composing

@@ -1,0 +1,2 @@
+pub mod Retracted
+pub mod Parts
