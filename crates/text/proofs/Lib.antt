@@ -3,3 +3,4 @@ pub mod Bytes
 pub mod Walks
 pub mod Inverse
 pub mod Words
+pub mod RoundTrip

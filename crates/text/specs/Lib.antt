@@ -2,3 +2,4 @@ pub mod Form
 pub mod Copies
 pub mod Reading
 pub mod Grammar
+pub mod Entries

@@ -1,8 +1,13 @@
-// The text of a board: four fields, printed and read. What a text is stands in specs/Form.
+// The text of a board: four fields, printed and read. What a text is stands in specs/Form, what the entries answer in specs/Entries.
+use accept::Refusal;
+use board::Boarded;
+use board::RetractableBoard;
 use geometry::Color;
 use laws::CastleRights;
 use laws::EnPassantFlag;
 pub use placement::Line;
+ghost use mathlib.Core.Path.{_≡_};
+ghost use Rattle.text.specs.Entries.{Reads, toldOf, printedOf, leftOf};
 
 pub mod inner; // inner.rt: the printer, the reader, and the copy into a lent slice
 
@@ -37,4 +42,63 @@ pub struct Scan {
     pub turn: u8,
     pub rights: u8,
     pub square: u8,
+}
+
+// A board printed into a lent slice: how many bytes were written, or are needed, or why it was refused.
+pub enum Printed {
+    Count(usize),
+    Room(usize),
+    Refused(Refusal),
+}
+
+// A board from a text: refusal 14, then 1 to 6.
+pub fn read(text: &[u8]) -> Boarded
+    ensures { λ r. ⌜ Reads (now (text .entry)) r ⌝ }
+{
+    let raw = inner::read_raw(text);
+    let form = raw.verdict;
+    match form {
+        Verdict::OutOfForm => {
+            let v = accept::Verdict::Refused(Refusal::Text);
+            board::board_by(v, board::no_board())
+        }
+        Verdict::InForm => {
+            let pieces = raw.pieces;
+            let colors = raw.colors;
+            let turn = raw.turn;
+            let white = raw.white;
+            let black = raw.black;
+            let passant = raw.passant;
+            RetractableBoard::new(pieces, colors, turn, white, black, passant)
+        }
+    }
+}
+
+// The text of a board, into a lent slice: refusals 1 to 7, then 13. Only a whole text is written.
+pub fn print(b: RetractableBoard, out: &mut [u8]) -> Printed
+    ensures { λ r. ⌜ (r ≡ printedOf b (now (out .entry))) × (now (out .exit) ≡ leftOf b (now (out .entry))) ⌝ }
+{
+    let v = b.judge();
+    match v {
+        accept::Verdict::Refused(r) => Printed::Refused(r),
+        accept::Verdict::Accepted => {
+            let pieces = b.pieces;
+            let colors = b.colors;
+            let turn = b.turn;
+            let white = b.white;
+            let black = b.black;
+            let passant = b.passant;
+            let line = inner::line_of(pieces, colors, turn, white, black, passant);
+            told(inner::copy(line, out))
+        }
+    }
+}
+
+fn told(c: Copied) -> Printed
+    ensures { λ r. ⌜ r ≡ toldOf c ⌝ }
+{
+    match c {
+        Copied::Count(n) => Printed::Count(n),
+        Copied::Room(n) => Printed::Room(n),
+    }
 }

@@ -1,0 +1,46 @@
+-- `text::print` meets its contract.
+use borrow.Author.Needs.{needs}
+use Rattle.text.proofs.RoundTrip.{not-printed, printed-so}
+use Rattle.text.proofs.print.Statement.{statement}
+use Rattle.text.proofs.print.Tie as tie
+
+judge-requires : tie.Need-judge-requires
+judge-requires c κs = search needs
+
+enum-known-v : tie.Need-enum-known-v
+enum-known-v c = search needs
+
+enum-told : tie.Need-enum-told
+enum-told c = search needs
+
+line-of-requires : tie.Need-line-of-requires
+line-of-requires c κs = search needs
+
+copy-requires : tie.Need-copy-requires
+copy-requires c κs = search needs
+
+told-requires : tie.Need-told-requires
+told-requires c κs = search needs
+
+returns : tie.Need-returns
+returns c = not-printed _ _ _ _ (c .before .before .before .judge .ensures) (c .before .v .given .1)
+
+same-length : tie.Need-same-length
+same-length c = search needs
+
+returns-2 : tie.Need-returns-2
+returns-2 c = printed-so _ _ _ _ _ _ _ (c .before .before .before .before .before .before .before .before .before .before .judge .ensures) (c .before .before .before .before .before .before .before .before .enum-told .given .1) (c .before .before .before .before .before .line-of .ensures .0 .text) (c .before .before .before .copy .ensures .0) (c .before .before .before .copy .ensures .1) (c .told .ensures)
+
+pub print-spec : {M : Type 1} → statement M
+print-spec =
+    tie.close
+    (tie.spec
+    judge-requires
+    enum-known-v
+    enum-told
+    line-of-requires
+    copy-requires
+    told-requires
+    returns
+    same-length
+    returns-2)
