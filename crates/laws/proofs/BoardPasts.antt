@@ -65,7 +65,7 @@ board-accepted p on ok =
     fresh f = eq-eqb _ _ (ap f (sym (men-shown (p .men) on)))
 
 -- the un-made men stand on the 64 squares
-put-on : (k : ℕ) (x : Man) (m : Men) → k < 64 → OnBoard m → OnBoard (put k x m)
+pub put-on : (k : ℕ) (x : Man) (m : Men) → k < 64 → OnBoard m → OnBoard (put k x m)
 put-on k x m h o j l = off k x j (λ e. apart e) (o j l)
   where
     apart : j ≡ k → ⊥

@@ -25,6 +25,7 @@ use Rattle.laws.specs.Strictness.{agrees, Gives, Past, strictBy, strict}
 use Rattle.squares.proofs.Testing.{both, left, right, or-right}
 use Rattle.squares.proofs.Every.{all-at}
 use Rattle.laws.proofs.Mans.{opp-opp, is-empty, numbered-not-of, leaves, kind-back, arriving-of, passant-is, castling-is, state-named}
+use Rattle.laws.proofs.Passes.{Passes, passes-of}
 use Rattle.laws.proofs.Facts.{Accepts, accepts, accepted-by, Named, names, Possible, possibly, possible-by}
 use Rattle.laws.proofs.Puts.{put-at, off, Ready, before-after}
 use Rattle.laws.proofs.Retracting.{kindToday, canRetract, back}
@@ -76,15 +77,15 @@ crossed m Black short h = is-empty (m 61) (all-at 64 (λ k. not (between 60 63 k
 crossed m Black long h = is-empty (m 59) (all-at 64 (λ k. not (between 60 56 k) or isEmpty (m k)) h 59 (lit< tt))
 
 -- the state that en passant goes by
-passing : (p : Pos) (t s u : ℕ) → Accepts p → goes p passant t s u ≡ true → stateOk (p .men) (p .turn) (Some (behind (p .turn) s)) ≡ true
+passing : (p : Pos) (t s u : ℕ) → Passes p → goes p passant t s u ≡ true → stateOk (p .men) (p .turn) (Some (behind (p .turn) s)) ≡ true
 passing p t s u ok g =
     subst (λ (st : EnPassantFlag). stateOk (p .men) (p .turn) st ≡ true) (state-named (p .state) (behind (p .turn) s) (right _ _ g)) (ok .state)
 
-taken-pawn : (p : Pos) (t s u : ℕ) → Accepts p → goes p passant t s u ≡ true → Named (p .men) (p .turn) (behind (p .turn) s)
+taken-pawn : (p : Pos) (t s u : ℕ) → Passes p → goes p passant t s u ≡ true → Named (p .men) (p .turn) (behind (p .turn) s)
 taken-pawn p t s u ok g = names (p .men) (p .turn) (behind (p .turn) s) (passing p t s u ok g)
 
 -- what an accepted board says where a way goes
-ready : (w : Way) (p : Pos) (t s u : ℕ) → Accepts p → goes p w t s u ≡ true → Ready w (p .turn) s (p .men)
+pub ready : (w : Way) (p : Pos) (t s u : ℕ) → Passes p → goes p w t s u ≡ true → Ready w (p .turn) s (p .men)
 ready plain p t s u ok g = tt
 ready passant p t s u ok g = taken-pawn p t s u ok g .stepped
 ready (castling d) p t s u ok g =
@@ -97,7 +98,7 @@ goes-on plain p t s u ρ g = g
 goes-on passant p t s u ρ g = both (left _ _ g) (eq-eqb (behind (p .turn) s) (behind (p .turn) s) refl)
 goes-on (castling d) p t s u ρ g = both (both (left _ _ (left _ _ g)) (or-right (ρ (p .turn) d) (same-right-self (p .turn) d))) (right _ _ g)
 
-state-on : (w : Way) (p : Pos) (t s u : ℕ) → Accepts p → goes p w t s u ≡ true → stateOk (p .men) (p .turn) (stateBefore w (p .turn) s) ≡ true
+state-on : (w : Way) (p : Pos) (t s u : ℕ) → Passes p → goes p w t s u ≡ true → stateOk (p .men) (p .turn) (stateBefore w (p .turn) s) ≡ true
 state-on plain p t s u ok g = refl
 state-on passant p t s u ok g = passing p t s u ok g
 state-on (castling d) p t s u ok g = refl
@@ -136,7 +137,7 @@ passed c m t s a hs ms st =
     v≢s q = false≢true (ap isEmpty (sym (st .stepped) ∙ ap m q ∙ ms))
 
 -- after the move stands what un-make overwrites
-undone : (w : Way) (p : Pos) (t s u : ℕ) (a : Man) → Accepts p → goes p w t s u ≡ true → s < 64 → p .men s ≡ numbered (opp (p .turn)) u
+pub undone : (w : Way) (p : Pos) (t s u : ℕ) (a : Man) → Passes p → goes p w t s u ≡ true → s < 64 → p .men s ≡ numbered (opp (p .turn)) u
     → isOf (p .turn) (p .men t) ≡ true → way (p .men t) t s u ≡ w → undoable w (p .turn) s (after w (p .turn) t s a (p .men)) ≡ true
 undone plain p t s u a ok g hs ms mt e = refl
 undone passant p t s u a ok g hs ms mt e =
@@ -154,7 +155,7 @@ home≢rook Black short e = omega arith
 home≢rook Black long e = omega arith
 
 -- the square that a man left is empty
-left-bare : (w : Way) (c : Color) (t s : ℕ) (a : Man) (m : Men) → t ≢ s → ((d : Side) → w ≡ castling d → t ≡ kingHome c) → after w c t s a m t ≡ empty
+pub left-bare : (w : Way) (c : Color) (t s : ℕ) (a : Man) (m : Men) → t ≢ s → ((d : Side) → w ≡ castling d → t ≡ kingHome c) → after w c t s a m t ≡ empty
 left-bare plain c t s a m ne f = off s a t ne (put-at t empty m)
 left-bare passant c t s a m ne f = off s a t ne (put-at t empty (cleared passant c s m))
 left-bare (castling d) c t s a m ne f =
@@ -172,6 +173,9 @@ complete-at b r k st ok few leg agr =
   where
     a-b : Accepts b
     a-b = accepts b ok
+
+    pass : Passes b
+    pass = passes-of b a-b
 
     c : Color
     c = b .turn
@@ -215,7 +219,7 @@ complete-at b r k st ok few leg agr =
     same-men : unmadeBy w c p r .men ≡ b .men
     same-men =
         ap (λ (z : Man). before w c t s z (numbered (opp c) u) (p .men)) left-man
-        ∙ before-after w c t s x (numbered (opp c) u) a (b .men) refl (move .taken) (ready w b t s u a-b (move .going))
+        ∙ before-after w c t s x (numbered (opp c) u) a (b .men) refl (move .taken) (ready w b t s u pass (move .going))
 
     same-kind : promotedTo (r .unpromotion) (p .men s) ≡ k
     same-kind = ap (promotedTo (r .unpromotion)) now-s ∙ kind-back x c s (r .unpromotion) k (move .marked)
@@ -243,7 +247,7 @@ complete-at b r k st ok few leg agr =
         (both (lt-ltb s 64 (move .source-in)) (subst (λ (z : Man). isOf c z ≡ true) (sym now-s) (arriving-of x c s (r .unpromotion) k (move .mine) (move .marked))))
         (both (lt-ltb t 64 (move .target-in)) (ap isEmpty (left-bare w c t s a (b .men) t≢s (λ d q. castling-is x t s u c d (move .mine) q .0)))))
         (kept-free (b .rights) c t s))
-        (both (both (both (undone w b t s u a a-b (move .going) (move .source-in) (move .taken) (move .mine) refl)
+        (both (both (both (undone w b t s u a pass (move .going) (move .source-in) (move .taken) (move .mine) refl)
         (subst (λ (z : Man). not (isPawn z and edge s) ≡ true) (move .taken) (no-pawn s (move .source-in))))
         (no-pawn t (move .target-in))) step)
 
@@ -255,7 +259,7 @@ complete-at b r k st ok few leg agr =
       kings = a-b .kings;
       pawns = a-b .pawns;
       rights = fewer (b .men) (b .rights) (regained w c (p .rights)) (regained-in w c t s (b .rights) has-right) (a-b .rights);
-      state = state-on w b t s u a-b (move .going);
+      state = state-on w b t s u pass (move .going);
       calm = a-b .calm;
     })
 

@@ -19,3 +19,4 @@ pub mod StrictMembers
 pub mod BoardPasts
 pub mod Daggers
 pub mod Packing
+pub mod Onwards

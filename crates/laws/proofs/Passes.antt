@@ -33,6 +33,9 @@ pub record Passes (p : Pos) : Type 0 where
   pub rights : rightsOk (p .men) (p .rights) ≡ true
   pub state : stateOk (p .men) (p .turn) (p .state) ≡ true
 
+pub passes-of : (p : Pos) → Accepts p → Passes p
+passes-of p a = record { kings = a .kings; pawns = a .pawns; rights = a .rights; state = a .state }
+
 pub unmade-passes : (p : Pos) (r : ChessRetraction) → accepted p ≡ true → canRetract p r ≡ true → Passes (unmade p r)
 unmade-passes p r ok R = record {
   kings = both (eq-eqb _ _ (kings-at White ∙ eqb-true _ _ (left _ _ (today .kings)))) (eq-eqb _ _ (kings-at Black ∙ eqb-true _ _ (right _ _ (today .kings))));
