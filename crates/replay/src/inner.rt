@@ -1,0 +1,156 @@
+// Replay on a position. `t` is the table of squares between, lent.
+use accept::Refusal;
+use accept::Verdict;
+use laws::CastleRights;
+use laws::ChessRetraction;
+use laws::Color;
+use laws::EnPassantFlag;
+use moves::Way;
+use placing::Position;
+use unmake::Unmade;
+ghost use mathlib.Core.Path.{_≡_};
+ghost use Prim.Native.Nat.{_<_};
+ghost use Rattle.squares.specs.Tests.{_and_};
+ghost use Rattle.geometry.specs.Lines.{IsBetween};
+ghost use Rattle.laws.specs.Men.{manOf};
+ghost use Rattle.laws.specs.Positions.{short, long, holds, rightsFor};
+ghost use Rattle.laws.specs.Moves.{arriving};
+ghost use Rattle.laws.specs.Moves as laws;
+ghost use Rattle.laws.specs.Boards.{Clean};
+ghost use Rattle.placing.specs.Placed.{menIn, posAt, withMen};
+ghost use Rattle.moves.specs.Stepping.{wayOf};
+ghost use Rattle.unmake.specs.Parts.{Fits};
+ghost use Rattle.replay.specs.Replayed.{afterFor, stateFor, keepsFor, replayedFor, replayTo, Goes};
+
+// The square that a move clears beside the one it leaves: the pawn taken en passant, the rook's corner.
+fn cleared(p: Position, w: Way, c: Color, s: u8) -> Position
+    requires { ⌜ Clean (p .pieces) (p .colors) × (s < 64) × Fits (wayOf w) c s ⌝ }
+    ensures { λ r. ⌜ r ≡ withMen p (laws.cleared (wayOf w) c s (menIn p)) ⌝ }
+{
+    match w {
+        Way::Plain => p,
+        Way::Passant => placing::inner::put_man(p, accept::inner::tests::behind(c, s), 0),
+        Way::Short => placing::inner::put_man(p, accept::inner::tests::home(c, 7), 0),
+        Way::Long => placing::inner::put_man(p, accept::inner::tests::home(c, 0), 0),
+    }
+}
+
+// The square that it fills beside the one it comes to: that of the castled rook.
+fn filled(p: Position, w: Way, c: Color) -> Position
+    requires { ⌜ Clean (p .pieces) (p .colors) ⌝ }
+    ensures { λ r. ⌜ r ≡ withMen p (laws.filled (wayOf w) c (menIn p)) ⌝ }
+{
+    match w {
+        Way::Plain => p,
+        Way::Passant => p,
+        Way::Short => {
+            let q = accept::inner::tests::home(c, 5);
+            placing::inner::put_man(p, q, placing::inner::man_number(c, 4))
+        }
+        Way::Long => {
+            let q = accept::inner::tests::home(c, 3);
+            placing::inner::put_man(p, q, placing::inner::man_number(c, 4))
+        }
+    }
+}
+
+// The men after the move from t to s: x arrives.
+fn after(p: Position, w: Way, c: Color, t: u8, s: u8, x: u8) -> Position
+    requires { ⌜ (Clean (p .pieces) (p .colors) × (t < 64) × (s < 64)) × ((x < 14) × Fits (wayOf w) c s) ⌝ }
+    ensures { λ r. ⌜ r ≡ withMen p (afterFor (wayOf w) c t s (manOf x) (menIn p)) ⌝ }
+{
+    let taken = cleared(p, w, c, s);
+    let left = placing::inner::put_man(taken, t, 0);
+    let ready = filled(left, w, c);
+    placing::inner::put_man(ready, s, x)
+}
+
+// The state after a move of the man numbered x: the pawn's square after a double step beside an enemy pawn, else none.
+fn state_after(p: Position, x: u8, t: u8, s: u8) -> EnPassantFlag
+    requires { ⌜ Clean (p .pieces) (p .colors) × (s < 64) × (x < 14) ⌝ }
+    ensures { λ r. ⌜ r ≡ stateFor (menIn p) (manOf x) t s ⌝ }
+{
+    let pieces = p.pieces;
+    let colors = p.colors;
+    let d = geometry::other(placing::inner::color_of(x));
+    let a = t / 8;
+    let b = s / 8;
+    let double = (a == b + 2) | (b == a + 2);
+    let near = accept::inner::tests::pawn_beside(pieces, colors, d, s);
+    if placing::inner::is_pawn(x) & double & near {
+        return EnPassantFlag::Some(s);
+    }
+    EnPassantFlag::None
+}
+
+// The man that arrives: the kind numbered k where the move is marked.
+fn arrives(mark: bool, x: u8, c: Color, k: u8) -> u8
+    requires { ⌜ (x < 14) × (k < 6) ⌝ }
+    ensures { λ z. ⌜ (manOf z ≡ arriving mark (manOf x) c k) × (z < 14) ⌝ }
+{
+    if mark {
+        return placing::inner::man_number(c, k);
+    }
+    x
+}
+
+// The right of a colour whose rook stands on a file survives a move from t to s.
+fn keeps(t: u8, s: u8, c: Color, file: u8) -> bool
+    requires { ⌜ file < 8 ⌝ }
+    ensures { λ r. ⌜ r ≡ keepsFor t s c file ⌝ }
+{
+    let home = accept::inner::tests::home(c, 4);
+    let corner = accept::inner::tests::home(c, file);
+    (t != home) & (t != corner) & (s != home) & (s != corner)
+}
+
+fn kept_rights(rights: CastleRights, t: u8, s: u8, c: Color) -> CastleRights
+    ensures { λ r. ⌜ r ≡ rightsFor (holds rights short and keepsFor t s c 7) (holds rights long and keepsFor t s c 0) ⌝ }
+{
+    let a = keeps(t, s, c, 7);
+    let b = keeps(t, s, c, 0);
+    placing::inner::rights_for(
+        accept::inner::tests::has_short(rights) & a,
+        accept::inner::tests::has_long(rights) & b,
+    )
+}
+
+// The position after a move that is possible.
+fn forward(p: Position, r: ChessRetraction, k: u8) -> Position
+    requires { ⌜ Goes p r k ⌝ }
+    ensures { λ e. ⌜ e ≡ replayedFor (posAt p) r k ⌝ }
+{
+    let c = p.turn;
+    let x = placing::inner::man_at(p, r.target);
+    let w = moves::inner::way_of(x, r.target, r.source, r.uncaptured);
+    let z = arrives(r.unpromotion, x, c, k);
+    let m = after(p, w, c, r.target, r.source, z);
+    let state = state_after(p, x, r.target, r.source);
+    let old_white = p.white;
+    let old_black = p.black;
+    let white = kept_rights(old_white, r.target, r.source, Color::White);
+    let black = kept_rights(old_black, r.target, r.source, Color::Black);
+    let turn = geometry::other(c);
+    Position {
+        turn: turn,
+        white: white,
+        black: black,
+        passant: state,
+        ..m
+    }
+}
+
+// Replay after its tests 1 to 5 and 7: refusal 12, or the position after the move; k is the kind promoted to.
+pub fn replay(t: &[u64; 4096], p: Position, r: ChessRetraction, k: u8) -> Unmade
+    requires { ⌜ IsBetween (now t) × Clean (p .pieces) (p .colors) ⌝ }
+    ensures { λ z. ⌜ z ≡ replayTo (posAt p) r k ⌝ }
+{
+    if !moves::inner::possible(t, p, r, k) {
+        return unmake::inner::refuse(Refusal::Step);
+    }
+    let e = forward(p, r, k);
+    Unmade {
+        verdict: Verdict::Accepted,
+        position: e,
+    }
+}
