@@ -14,8 +14,10 @@ ghost use Rattle.laws.specs.Boards.{menAt, Clean};
 ghost use Rattle.board.specs.Gate.{freshBy, gateOf};
 ghost use Rattle.board.specs.Answers.{workedOf, newOf};
 
+pub mod moving; // moving.rt: un-make and replay of a board
+
 // 7 STALE
-fn stale(
+pub fn stale(
     t: &[u64; 4096],
     pieces: [u64; 6],
     colors: [u64; 2],

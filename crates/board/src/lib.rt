@@ -2,12 +2,14 @@
 use accept::Refusal;
 use accept::Verdict;
 use laws::CastleRights;
+use laws::ChessRetraction;
 use laws::Color;
 use laws::EnPassantFlag;
 use laws::Piece;
 ghost use mathlib.Core.Path.{_≡_};
 ghost use Rattle.board.specs.Gate.{gateOf, noBoard, boardedBy};
 ghost use Rattle.board.specs.Answers.{newOf, pieceOnOf, toldBy, attackedOf, passantVerdict, setPassantOf, uncertain, uncertainOf, pieceNumbered};
+ghost use Rattle.board.specs.Moving.{unmadeBoard, replayedBoard};
 
 pub mod inner; // inner.rt: the gate over a lent table
 
@@ -171,6 +173,30 @@ impl RetractableBoard {
         let state = self.passant;
         let passant = uncertain_of(state);
         board_by(v, RetractableBoard { passant, ..self })
+    }
+
+    // The board before a retraction: refusals 1 to 7, then 9 to 12. It may have the retractor's king attacked.
+    pub fn make_retraction_new(self, r: ChessRetraction) -> Boarded
+        ensures { λ z. ⌜ z ≡ unmadeBoard self r ⌝ }
+    {
+        let t = tables::between_table();
+        let v = inner::gate(&t, self);
+        match v {
+            Verdict::Refused(w) => board_by(Verdict::Refused(w), no_board()),
+            Verdict::Accepted => inner::moving::unmade(&t, self, r),
+        }
+    }
+
+    // The board after the move of a retraction: refusals 1 to 5 and 7, then 12. `kind` is that promoted to, 0 where none is.
+    pub fn replay(self, r: ChessRetraction, kind: u8) -> Boarded
+        ensures { λ z. ⌜ z ≡ replayedBoard self r kind ⌝ }
+    {
+        let t = tables::between_table();
+        let v = inner::moving::replay_gate(&t, self);
+        match v {
+            Verdict::Refused(w) => board_by(Verdict::Refused(w), no_board()),
+            Verdict::Accepted => inner::moving::replayed(&t, self, r, kind),
+        }
     }
 }
 

@@ -1,0 +1,103 @@
+// Un-make and replay of a board that its gate let pass, over a lent table of squares between.
+use super::super::Boarded;
+use super::super::RetractableBoard;
+use accept::Refusal;
+use accept::Verdict;
+use laws::ChessRetraction;
+use placing::Position;
+use unmake::Unmade;
+ghost use mathlib.Core.Path.{_≡_};
+ghost use Rattle.geometry.specs.Lines.{IsBetween};
+ghost use Rattle.accept.specs.declared.Verdict.the-variants.{Accepted};
+ghost use Rattle.unmake.specs.Retracted.{unmadeTo};
+ghost use Rattle.replay.specs.Replayed.{replayTo};
+ghost use Rattle.board.specs.Gate.{posOn, gateOf};
+ghost use Rattle.board.specs.Moving.{placedOn, boardedOf, replayGate, Sound};
+
+// A board's fields without the worked-out ones.
+fn placed(b: RetractableBoard) -> Position
+    ensures { λ p. ⌜ p ≡ placedOn b ⌝ }
+{
+    let pieces = b.pieces;
+    let colors = b.colors;
+    let turn = b.turn;
+    let white = b.white;
+    let black = b.black;
+    let passant = b.passant;
+    Position {
+        pieces,
+        colors,
+        turn,
+        white,
+        black,
+        passant,
+    }
+}
+
+// The board of an answer: union, checkers and pins are worked out afresh.
+fn boarded(t: &[u64; 4096], u: Unmade) -> Boarded
+    requires { ⌜ IsBetween (now t) × Sound u ⌝ }
+    ensures { λ r. ⌜ r ≡ boardedOf u ⌝ }
+{
+    let v = u.verdict;
+    match v {
+        Verdict::Refused(w) => super::super::board_by(
+            Verdict::Refused(w),
+            super::super::no_board(),
+        ),
+        Verdict::Accepted => {
+            let p = u.position;
+            let pieces = p.pieces;
+            let colors = p.colors;
+            let turn = p.turn;
+            let white = p.white;
+            let black = p.black;
+            let passant = p.passant;
+            let b = super::worked(t, pieces, colors, turn, white, black, passant);
+            super::super::board_by(Verdict::Accepted, b)
+        }
+    }
+}
+
+// Refusals 1 to 5 and 7: the move that is replayed may leave a check.
+pub fn replay_gate(t: &[u64; 4096], b: RetractableBoard) -> Verdict
+    requires { ⌜ IsBetween (now t) ⌝ }
+    ensures { λ v. ⌜ v ≡ replayGate b ⌝ }
+{
+    let pieces = b.pieces;
+    let colors = b.colors;
+    let turn = b.turn;
+    let white = b.white;
+    let black = b.black;
+    let passant = b.passant;
+    let v = accept::inner::five(pieces, colors, turn, white, black, passant);
+    match v {
+        Verdict::Refused(r) => Verdict::Refused(r),
+        Verdict::Accepted => {
+            if super::stale(t, pieces, colors, turn, b.combined, b.checkers, b.pinned) {
+                return Verdict::Refused(Refusal::Stale);
+            }
+            Verdict::Accepted
+        }
+    }
+}
+
+// Un-make: refusals 9 to 12, or the earlier board.
+pub fn unmade(t: &[u64; 4096], b: RetractableBoard, r: ChessRetraction) -> Boarded
+    requires { ⌜ IsBetween (now t) × (gateOf b ≡ Accepted) ⌝ }
+    ensures { λ z. ⌜ z ≡ boardedOf (unmadeTo (posOn b) r) ⌝ }
+{
+    let p = placed(b);
+    let u = unmake::inner::unmake(t, p, r);
+    boarded(t, u)
+}
+
+// Replay: refusal 12, or the board after the move.
+pub fn replayed(t: &[u64; 4096], b: RetractableBoard, r: ChessRetraction, kind: u8) -> Boarded
+    requires { ⌜ IsBetween (now t) × (replayGate b ≡ Accepted) ⌝ }
+    ensures { λ z. ⌜ z ≡ boardedOf (replayTo (posOn b) r kind) ⌝ }
+{
+    let p = placed(b);
+    let u = replay::inner::replay(t, p, r, kind);
+    boarded(t, u)
+}
