@@ -15,7 +15,7 @@ use Rattle.squares.specs.Tests.{_or_}
 use Rattle.io.specs.Digits.{digits, Fewest}
 use Rattle.feed.specs.declared.Part.{Part}
 use Rattle.feed.specs.Splitting.{stopFrom, stopOf, keptOf, cutOf, lineOf}
-use Rattle.feed.specs.Appending.{Adds}
+use Rattle.feed.specs.Appending.{addedLen, addedOut, Adds, AddsDecimal}
 
 -- one more byte of s is in o
 pub copy-more : (o : List ℕ) (at : ℕ) (s : List ℕ) (from j : ℕ) → at + j < length o → from + j < length s
@@ -144,3 +144,8 @@ sixteen x k h p = le-antisymm (by (leb k 16) refl) (p .0)
         let u : 16 ^ (k - 1) ≤ x = p .2 (omega arith) in
         let w : 16 ^ 16 ≤ 16 ^ (k - 1) = pow-le-pow-right {n = 16} (omega arith) {i = 16} {j = k - 1} (omega arith) in
         absurd (omega arith)
+
+pub decimal-one : (o : List ℕ) (len x r s : ℕ) (a b : List ℕ) → AddsDecimal o len x r a → AddsDecimal o len x s b → (r ≡ s) × (a ≡ b)
+decimal-one o len x r s a b p q =
+    let e = ap (λ (k : ℕ). digits 10 k x) (fewest-one 10 x (p .places) (q .places) (omega arith) (p .fewest) (q .fewest)) in
+    (p .adds .used ∙ ap (addedLen o len) e ∙ sym (q .adds .used), p .adds .holds ∙ ap (addedOut o len) e ∙ sym (q .adds .holds))

@@ -23,6 +23,7 @@ use Rattle.text.specs.declared.Printed.the-variants.{Count, Room, Refused as no
 use Rattle.text.specs.Entries.{Reads, textOn, printedBy, leftBy, printedOf, leftOf}
 use Rattle.feed.specs.Appending.{Adds, AddsDecimal}
 use Rattle.reading.specs.Replies.{numeral, word, newline, refusedText, replyBy, Shows, Replies}
+use Rattle.text.proofs.RoundTrip.{read-one}
 use Rattle.text.proofs.Tails.{print-short}
 use Rattle.feed.proofs.Cuts.{fewest-one}
 use Rattle.feed.proofs.Added.{added-len, added-bytes, added-length}
@@ -121,3 +122,9 @@ module _ (b : RetractableBoard) (o o₁ : List ℕ) (p : Printed) (g : gateOf b 
 -- what is read is replied to
 pub replies : (t : List ℕ) (b : Boarded) (n : ℕ) (o : List ℕ) (v : Verdict) → Reads t b → b .verdict ≡ v → Shows (replyBy v (b .board)) n o → Replies t n o
 replies t b n o v a e s = record { answer = b; reads = a; shows = subst (λ (u : Verdict). Shows (replyBy u (b .board)) n o) (sym e) s }
+
+-- there is one reply to a text
+pub reply-one : (t : List ℕ) (n m : ℕ) (o p : List ℕ) → Replies t n o → Replies t m p → (n ≡ m) × (take n o ≡ take m p)
+reply-one t n m o p a b =
+    let e = a .shows .1 ∙ ap (λ (x : Boarded). replyBy (x .verdict) (x .board)) (read-one t (a .answer) (b .answer) (a .reads) (b .reads)) ∙ sym (b .shows .1) in
+    (a .shows .0 .1 ∙ ap length e ∙ sym (b .shows .0 .1), e)
