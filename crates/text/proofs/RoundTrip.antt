@@ -2,7 +2,7 @@
 use mathlib.Core.Path.{_≡_, refl, sym, _∙_, ap, ap₂, subst}
 use mathlib.Core.Bool.{Bool, true, false, not}
 use mathlib.Core.List.{List}
-use Prim.Native.Nat.{ℕ}
+use Prim.Native.Nat.{ℕ, _<_}
 use native.Mathlib.Omega.{arith}
 use lib.ListN.{length}
 use lib.Dec.{eqb}
@@ -39,7 +39,7 @@ use Rattle.laws.proofs.Cases.{by-cases}
 use Rattle.laws.proofs.Cleaning.{Bounded}
 use Rattle.accept.proofs.Numbered.{judged-passes}
 use Rattle.board.proofs.Passing.{judged-clean, gate-judged, gate-passed}
-use Rattle.text.proofs.Inverse.{says-one}
+use Rattle.text.proofs.Inverse.{says-one, says-short}
 
 -- any two answers to a text that the contract allows are the same
 pub read-one : (t : List ℕ) (a b : Boarded) → Reads t a → Reads t b → a ≡ b
@@ -160,3 +160,7 @@ pub print-after-read : (t : List ℕ) (r : Boarded) → Reads t r → r .verdict
 print-after-read t r a h o =
     let g = read-accepted t r a h in
     (ap₂ (λ (v : Verdict) (s : List ℕ). printedBy v s o) (g .0) (g .1), ap₂ (λ (v : Verdict) (s : List ℕ). leftBy v s o) (g .0) (g .1))
+
+-- "At most 81 bytes": a longer text is refused by 14
+pub long-refused : (t : List ℕ) (r : Boarded) → Reads t r → 81 < length t → r .verdict ≡ Refused Text
+long-refused t r a h = refused-text t r a (λ f s. let k = says-short t f s in omega arith)

@@ -1,0 +1,151 @@
+-- Bytes copied one by one, and the search for a newline.
+use mathlib.Core.Path.{_≡_, refl, sym, _∙_, ap, ap₂, subst}
+use mathlib.Core.Bool.{Bool, cond, true, false, _||_}
+use mathlib.Core.List.{List}
+use mathlib.Core.Logic.{_⊎_, inl, inr, ⊎-elim}
+use Prim.Native.Nat.{ℕ, zero, suc, _^_, _+_, _-_, _≤_, _<_, min}
+use native.Mathlib.Nat.{le-antisymm, pow-le-pow-right}
+use native.Mathlib.Omega.{arith}
+use native.Mathlib.Numerals.{add-one}
+use lib.Dec.{eqb, leb, ltb}
+use lib.ListN.{length, getD, take, drop, set, length-drop}
+use lib.Seq.{paste, paste-suc, getD-drop}
+use borrow.Author.Tests.{eq-eqb, ne-eqb, le-leb, lt-leb, eqb-true, eqb-false, ltb-true, ltb-false, leb-true, leb-false}
+use Rattle.squares.specs.Tests.{_or_}
+use Rattle.io.specs.Digits.{digits, Fewest}
+use Rattle.feed.specs.declared.Part.{Part}
+use Rattle.feed.specs.Splitting.{stopFrom, stopOf, keptOf, cutOf, lineOf}
+use Rattle.feed.specs.Appending.{addedLen, addedOut, Adds, AddsDecimal}
+
+-- one more byte of s is in o
+pub copy-more : (o : List ℕ) (at : ℕ) (s : List ℕ) (from j : ℕ) → at + j < length o → from + j < length s
+    → set (paste o at (drop from s) j) (at + j) (getD s (from + j) 0) ≡ paste o at (drop from s) (j + 1)
+copy-more o at s from j h k =
+    let l : j < length (drop from s) = simp length-drop (omega arith) in
+    rw (add-one, ← getD-drop from s j 0) (paste-suc o at (drop from s) j 0 h l)
+
+-- the search stands on a newline, or goes on past another byte, or is at its end
+module _ (s : List ℕ) (i end : ℕ) where
+  more : i < end → end - i ≡ suc (end - (i + 1))
+  more h = omega arith
+
+  pub stop-here : i < end → getD s i 0 ≡ 10 → stopFrom s i (end - i) ≡ i
+  unfolding stopFrom
+  stop-here h e = rw (more h, eq-eqb (getD s i 0) 10 e)
+
+  pub stop-later : i < end → (getD s i 0 ≡ 10 → ⊥) → stopFrom s i (end - i) ≡ stopFrom s (i + 1) (end - (i + 1))
+  unfolding stopFrom
+  stop-later h e = rw (more h, ne-eqb (getD s i 0) 10 e) (ap (λ (k : ℕ). stopFrom s k (end - (i + 1))) (sym (add-one i)))
+
+  pub stop-end : end ≤ i → stopFrom s i (end - i) ≡ i
+  unfolding stopFrom
+  stop-end h = let e : end - i ≡ 0 = omega arith in rw e
+
+-- bytes that have room behind the first `len` are added, others are not
+module _ (o b : List ℕ) (len : ℕ) where
+  pub adds : len + length b ≤ length o → (x : List ℕ) → x ≡ paste o len b (length b) → Adds o len b (len + length b) x
+  adds h x e =
+      let k : leb (len + length b) (length o) ≡ true = le-leb (len + length b) (length o) h in
+      record { used = rw k; holds = e ∙ rw k }
+
+  pub adds-none : length o < len + length b → Adds o len b len o
+  adds-none h =
+      let k : leb (len + length b) (length o) ≡ false = lt-leb (len + length b) (length o) h in
+      record { used = rw k; holds = rw k }
+
+-- the digits of a number are added, as the text of them
+pub adds-digits : (o t : List ℕ) (b len x k n r : ℕ) (after : List ℕ) → Adds o len (take k t) r after → take k t ≡ digits b k x → k ≡ n → Adds o len (digits b n x) r after
+adds-digits o t b len x k n r after a e h =
+    subst (λ (l : List ℕ). Adds o len l r after) (e ∙ ap (λ (i : ℕ). digits b i x) h) a
+
+-- the parts of a cut, worked out one by one
+abbrev cutBy : Part → ℕ → ℕ → Part
+cutBy p stop n = record {
+  at = cond (ltb stop (p .end)) (stop + 1) (p .end);
+  end = p .end;
+  len = p .len + n;
+  long = p .long or ltb n (stop - p .at);
+  ready = ltb stop (p .end);
+  over = false;
+}
+
+module _ (s l x : List ℕ) (p : Part) (stop n at : ℕ) (e : stop ≡ stopOf s p) (k : n ≡ min (stop - p .at) (512 - p .len)) where
+  kept-is : n ≡ keptOf s p
+  kept-is = k ∙ ap (λ (i : ℕ). min (i - p .at) (512 - p .len)) e
+
+  pub cut-is : at ≡ cond (ltb stop (p .end)) (stop + 1) (p .end)
+      → record { at = at; end = p .end; len = p .len + n; long = p .long || ltb n (stop - p .at); ready = ltb stop (p .end); over = false } ≡ cutOf s p
+  unfolding _or_
+  cut-is h =
+      (λ i. record { at = h i; end = p .end; len = p .len + n; long = p .long or ltb n (stop - p .at); ready = ltb stop (p .end); over = false })
+      ∙ ap₂ (cutBy p) e kept-is
+
+  pub line-is : x ≡ paste l (p .len) (drop (p .at) s) n → x ≡ lineOf s p l
+  line-is h = h ∙ ap (paste l (p .len) (drop (p .at) s)) kept-is
+
+-- where the search stops: among the bytes or past them, on a newline where it is among them, and on the first
+pub stop-within : (s : List ℕ) (at n : ℕ) → (at ≤ stopFrom s at n) × (stopFrom s at n ≤ at + n)
+unfolding stopFrom
+stop-within s at zero = (omega arith, omega arith)
+stop-within s at (suc n) = go (eqb (getD s at 0) 10) (stopFrom s (suc at) n) (stop-within s (suc at) n)
+  where
+    go : (t : Bool) (i : ℕ) → (suc at ≤ i) × (i ≤ suc at + n) → (at ≤ cond t at i) × (cond t at i ≤ at + suc n)
+    go true i h = (omega arith, omega arith)
+    go false i h = (omega arith, omega arith)
+
+pub stop-newline : (s : List ℕ) (at n : ℕ) → stopFrom s at n < at + n → getD s (stopFrom s at n) 0 ≡ 10
+unfolding stopFrom
+stop-newline s at zero h = absurd (omega arith)
+stop-newline s at (suc n) h = go (eqb (getD s at 0) 10) refl (stopFrom s (suc at) n) (stop-newline s (suc at) n) h
+  where
+    go : (t : Bool) → eqb (getD s at 0) 10 ≡ t → (i : ℕ) → (i < suc at + n → getD s i 0 ≡ 10) → cond t at i < at + suc n → getD s (cond t at i) 0 ≡ 10
+    go true e i f k = eqb-true (getD s at 0) 10 e
+    go false e i f k = f (omega arith)
+
+above : (i j : ℕ) → i ≤ j → (i ≡ j) ⊎ (suc i ≤ j)
+above i j h = by (ltb i j) refl
+  where
+    by : (t : Bool) → ltb i j ≡ t → (i ≡ j) ⊎ (suc i ≤ j)
+    by true e = inr (ltb-true i j e)
+    by false e = let k = ltb-false i j e in inl (omega arith)
+
+pub stop-first : (s : List ℕ) (at n k : ℕ) → at ≤ k → k < stopFrom s at n → getD s k 0 ≡ 10 → ⊥
+unfolding stopFrom
+stop-first s at zero k a b e = omega arith
+stop-first s at (suc n) k a b e = go (eqb (getD s at 0) 10) refl (stopFrom s (suc at) n) (λ q h. stop-first s (suc at) n k q h e) b
+  where
+    go : (t : Bool) → eqb (getD s at 0) 10 ≡ t → (i : ℕ) → (suc at ≤ k → k < i → ⊥) → k < cond t at i → ⊥
+    go true d i f h = omega arith
+    go false d i f h = ⊎-elim (λ q. eqb-false (getD s at 0) 10 d (ap (λ (u : ℕ). getD s u 0) q ∙ e)) (λ q. f q h) (above at k a)
+
+-- a number has one fewest count of digits, so that its decimal digits are added in one way
+pub fewest-one : (b x i j : ℕ) → 1 < b → Fewest b 1 x i → Fewest b 1 x j → i ≡ j
+fewest-one b x i j h p q = le-antisymm (below p q) (below q p)
+  where
+    below : {m n : ℕ} → Fewest b 1 x m → Fewest b 1 x n → m ≤ n
+    below {m} {n} p q = by (leb m n) refl
+      where
+        by : (t : Bool) → leb m n ≡ t → m ≤ n
+        by true e = leb-true m n e
+        by false e =
+            let l = leb-false m n e in
+            let u : b ^ (m - 1) ≤ x = p .2 (omega arith) in
+            let w : b ^ n ≤ b ^ (m - 1) = pow-le-pow-right (omega arith) (omega arith) in
+            absurd (omega (arith, q .1))
+
+-- sixteen hexadecimal digits hold any number of 64 bits
+pub sixteen : (x k : ℕ) → x < 2 ^ 64 → Fewest 16 16 x k → k ≡ 16
+sixteen x k h p = le-antisymm (by (leb k 16) refl) (p .0)
+  where
+    by : (t : Bool) → leb k 16 ≡ t → k ≤ 16
+    by true e = leb-true k 16 e
+    by false e =
+        let l = leb-false k 16 e in
+        let u : 16 ^ (k - 1) ≤ x = p .2 (omega arith) in
+        let w : 16 ^ 16 ≤ 16 ^ (k - 1) = pow-le-pow-right {n = 16} (omega arith) {i = 16} {j = k - 1} (omega arith) in
+        absurd (omega arith)
+
+pub decimal-one : (o : List ℕ) (len x r s : ℕ) (a b : List ℕ) → AddsDecimal o len x r a → AddsDecimal o len x s b → (r ≡ s) × (a ≡ b)
+decimal-one o len x r s a b p q =
+    let e = ap (λ (k : ℕ). digits 10 k x) (fewest-one 10 x (p .places) (q .places) (omega arith) (p .fewest) (q .fewest)) in
+    (p .adds .used ∙ ap (addedLen o len) e ∙ sym (q .adds .used), p .adds .holds ∙ ap (addedOut o len) e ∙ sym (q .adds .holds))

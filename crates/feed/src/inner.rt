@@ -1,0 +1,71 @@
+// The line that is cut out of what was read, and a copy into a buffer.
+use super::Part;
+ghost use mathlib.Core.Path.{_≡_};
+ghost use mathlib.Core.Bool.{cond};
+ghost use Prim.Native.Nat.{_+_, _-_, _≤_, min};
+ghost use lib.Dec.{ltb};
+ghost use lib.ListN.{length, drop};
+ghost use lib.Seq.{paste};
+ghost use Rattle.feed.specs.Splitting.{stopFrom, cutOf, lineOf, Fit};
+
+// n bytes of `src` go into `out` from `at` on.
+pub fn copy(out: &mut [u8], at: usize, src: &[u8], from: usize, n: usize)
+    requires { ⌜ (at + n ≤ length (now out)) × (from + n ≤ length (now src)) ⌝ }
+    ensures { λ _. ⌜ now (out .exit) ≡ paste (now (out .entry)) at (drop from (now (src .entry))) n ⌝ }
+{
+    let mut j = 0;
+    while j < n {
+        out[at + j] = src[from + j];
+        j += 1;
+    }
+}
+
+// The place of the first newline from `at` on, or `end`.
+fn find(s: &[u8; 65536], at: usize, end: usize) -> usize
+    requires { ⌜ (at ≤ end) × (end ≤ 65536) ⌝ }
+    ensures { λ r. ⌜ (r ≡ stopFrom (now (s .entry)) at (end - at)) × (at ≤ r) × (r ≤ end) ⌝ }
+{
+    let mut i = at;
+    while i < end {
+        if s[i] == b'\n' {
+            return i;
+        }
+        i += 1;
+    }
+    i
+}
+
+fn least(a: usize, b: usize) -> usize
+    ensures { λ r. ⌜ (r ≡ min a b) × (r ≤ a) × (r ≤ b) ⌝ }
+{
+    if a < b { a } else { b }
+}
+
+// The place past a newline at `stop`, or the end where there is none.
+fn past(stop: usize, end: usize) -> usize
+    requires { ⌜ stop ≤ end ⌝ }
+    ensures { λ r. ⌜ (r ≡ cond (ltb stop end) (stop + 1) end) × (r ≤ end) ⌝ }
+{
+    if stop < end { stop + 1 } else { end }
+}
+
+// The unread bytes up to the newline go into the line's buffer, as far as it has room.
+pub fn cut(chunk: &[u8; 65536], line: &mut [u8; 512], p: Part) -> Part
+    requires { ⌜ Fit p ⌝ }
+    ensures { λ r. ⌜ (r ≡ cutOf (now (chunk .entry)) p) × (now (line .exit) ≡ lineOf (now (chunk .entry)) p (now (line .entry))) × Fit r ⌝ }
+{
+    let at = p.at;
+    let end = p.end;
+    let len = p.len;
+    let stop = find(chunk, at, end);
+    let n = least(stop - at, 512 - len);
+    copy(line, len, chunk, at, n);
+    Part {
+        at: past(stop, end),
+        end,
+        len: len + n,
+        long: p.long | (n < stop - at),
+        ready: stop < end,
+        over: false,
+    }
+}

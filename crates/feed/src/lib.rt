@@ -1,0 +1,168 @@
+// The lines of standard input one after the other in bounded memory, and what programs put their answers together with.
+use libc::STDIN_FILENO;
+ghost use mathlib.Core.Path.{_≡_};
+ghost use Prim.Native.Nat.{_≤_};
+ghost use Rattle.io.specs.Digits.{digits};
+ghost use Rattle.feed.specs.Splitting.{Fit, Sound};
+ghost use Rattle.feed.specs.Appending.{Adds, AddsDecimal};
+
+pub mod inner; // inner.rt: a line cut out of what was read, and a copy into a buffer
+
+// The bytes at..end of what was read are unread.
+pub struct Cursor {
+    pub at: usize,
+    pub end: usize,
+}
+
+// A line whose first `len` bytes are in the line's buffer (`long`: it had more), or the end of the input.
+pub enum Step {
+    Line {
+        len: usize,
+        long: bool,
+        next: Cursor,
+    },
+    End,
+}
+
+// A line on its way into the line's buffer: `ready` at its newline, `over` at the end of the input.
+pub struct Part {
+    pub at: usize,
+    pub end: usize,
+    pub len: usize,
+    pub long: bool,
+    pub ready: bool,
+    pub over: bool,
+}
+
+// Nothing is read yet.
+pub fn start() -> Cursor
+    ensures { λ r. ⌜ (r .at ≡ 0) × (r .end ≡ 0) ⌝ }
+{
+    Cursor { at: 0, end: 0 }
+}
+
+// The next line. Nothing says that an input ends, so the turns are counted down from a number that no input uses up.
+pub fn next(chunk: &mut [u8; 65536], line: &mut [u8; 512], c: Cursor) -> Step
+    ensures { λ r. ⌜ Sound r ⌝ }
+{
+    let mut p = opened(c);
+    let mut turns = u64::MAX;
+    while turns > 0 && open(p) {
+        p = turn(chunk, line, p);
+        turns -= 1;
+    }
+    step_of(p)
+}
+
+// A cursor that no chunk has says that nothing is read.
+fn opened(c: Cursor) -> Part
+    ensures { λ r. ⌜ Fit r ⌝ }
+{
+    let at = c.at;
+    let end = c.end;
+    if at <= end {
+        if end <= 65536 {
+            return from(at, end);
+        }
+    }
+    from(0, 0)
+}
+
+fn from(at: usize, end: usize) -> Part
+    requires { ⌜ (at ≤ end) × (end ≤ 65536) ⌝ }
+    ensures { λ r. ⌜ Fit r ⌝ }
+{
+    Part {
+        at,
+        end,
+        len: 0,
+        long: false,
+        ready: false,
+        over: false,
+    }
+}
+
+fn open(p: Part) -> bool {
+    !(p.ready | p.over)
+}
+
+// Cuts what is unread, or reads more.
+fn turn(chunk: &mut [u8; 65536], line: &mut [u8; 512], p: Part) -> Part
+    requires { ⌜ Fit p ⌝ }
+    ensures { λ r. ⌜ Fit r ⌝ }
+{
+    let at = p.at;
+    let end = p.end;
+    if at < end {
+        return inner::cut(chunk, line, p);
+    }
+    let got = libc::read(STDIN_FILENO, chunk);
+    let n = io::count(got, chunk);
+    filled(p, n)
+}
+
+// After a read of n bytes. At the end of the input what has no newline is a line too.
+fn filled(p: Part, n: usize) -> Part
+    requires { ⌜ Fit p × (n ≤ 65536) ⌝ }
+    ensures { λ r. ⌜ Fit r ⌝ }
+{
+    Part {
+        at: 0,
+        end: n,
+        len: p.len,
+        long: p.long,
+        ready: (n == 0) & (p.len > 0),
+        over: n == 0,
+    }
+}
+
+fn step_of(p: Part) -> Step
+    requires { ⌜ Fit p ⌝ }
+    ensures { λ r. ⌜ Sound r ⌝ }
+{
+    if p.ready {
+        return Step::Line {
+            len: p.len,
+            long: p.long,
+            next: Cursor {
+                at: p.at,
+                end: p.end,
+            },
+        };
+    }
+    Step::End
+}
+
+// Bytes behind the first `len` of a buffer; answers how many are then in use.
+pub fn put_bytes(out: &mut [u8], len: usize, bytes: &[u8]) -> usize
+    ensures { λ r. ⌜ Adds (now (out .entry)) len (now (bytes .entry)) r (now (out .exit)) ⌝ }
+{
+    let n = bytes.len();
+    let have = out.len();
+    if have < len {
+        return len;
+    }
+    if have - len < n {
+        return len;
+    }
+    inner::copy(out, len, bytes, 0, n);
+    len + n
+}
+
+// The sixteen hexadecimal digits of a number.
+pub fn put_hex16(out: &mut [u8], len: usize, x: u64) -> usize
+    ensures { λ r. ⌜ Adds (now (out .entry)) len (digits 16 16 x) r (now (out .exit)) ⌝ }
+{
+    let mut text = [0u8; 16];
+    let k = io::hex(x, 16, &mut text);
+    put_bytes(out, len, &text[..k])
+}
+
+// The decimal digits of a number.
+pub fn put_decimal(out: &mut [u8], len: usize, x: u64) -> usize
+    ensures { λ r. ⌜ AddsDecimal (now (out .entry)) len x r (now (out .exit)) ⌝ }
+{
+    let mut text = [0u8; 20];
+    let k = io::decimal(x, &mut text);
+    put_bytes(out, len, &text[..k])
+}

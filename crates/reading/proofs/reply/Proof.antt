@@ -1,0 +1,39 @@
+-- `reading::reply` meets its contract.
+use borrow.Author.Needs.{needs}
+use Rattle.text.proofs.RoundTrip.{read-accepted}
+use Rattle.reading.proofs.Spoken.{replies}
+use Rattle.reading.proofs.reply.Statement.{statement}
+use Rattle.reading.proofs.reply.Tie as tie
+
+read-requires : tie.Need-read-requires
+read-requires c κs = search needs
+
+enum-known-v : tie.Need-enum-known-v
+enum-known-v c = search needs
+
+put-refused-requires : tie.Need-put-refused-requires
+put-refused-requires c κs = search needs
+
+enum-told : tie.Need-enum-told
+enum-told c = search needs
+
+put-text-requires : tie.Need-put-text-requires
+put-text-requires c κs = read-accepted _ _ (c .before .before .before .before .read .ensures) (c .before .before .enum-told .given .1) .0
+
+returns : tie.Need-returns
+returns c = replies _ _ _ _ _ (c .before .before .before .before .before .read .ensures) (c .before .before .before .v .given .1) (c .put-refused .ensures)
+
+returns-2 : tie.Need-returns-2
+returns-2 c = replies _ _ _ _ _ (c .before .before .before .before .before .read .ensures) (c .before .before .before .enum-told .given .1) (c .put-text .ensures)
+
+pub reply-spec : {M : Type 1} → statement M
+reply-spec =
+    tie.close
+    (tie.spec
+    read-requires
+    enum-known-v
+    put-refused-requires
+    enum-told
+    put-text-requires
+    returns
+    returns-2)
