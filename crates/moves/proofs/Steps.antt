@@ -151,9 +151,6 @@ rest p r k z =
     and goes p (way (p .men (r .target)) (r .target) (r .source) (r .uncaptured)) (r .target) (r .source) (r .uncaptured)
 
 -- what the first test of the numbers says
-above : (n k : ℕ) → ltb n k ≡ true → ltb k (suc n) ≡ false
-above n k e = let h : n < k = ltb-true n k e in le-ltb k (suc n) (omega arith)
-
 pub impossible : (p : Pos) (r : ChessRetraction) (k : ℕ) → ((ltb 63 (r .source) || ltb 63 (r .target)) || ltb 5 (r .uncaptured)) ≡ true → false ≡ possibleFor p r k
 unfolding _and_ possibleFor
 impossible p r k e = sym (ap (rest p r k) (lost (ltb (r .source) 64) (ltb (r .target) 64) (leb (r .uncaptured) 5) refl refl refl))
