@@ -1,0 +1,135 @@
+// Numbers, raw men and retractions read from a line. Whatever stands there, something is read.
+use laws::CastleRights;
+use laws::ChessRetraction;
+use laws::Color;
+use laws::EnPassantFlag;
+
+// The byte at a place, or a newline, which no line has.
+pub fn byte(line: &[u8], at: usize) -> u8 {
+    if at < line.len() { line[at] } else { b'\n' }
+}
+
+// The place behind the next `sep`, or the line's end.
+pub fn after(line: &[u8], at: usize, sep: u8) -> usize {
+    let mut i = at;
+    while i < line.len() {
+        if line[i] == sep {
+            return i + 1;
+        }
+        i += 1;
+    }
+    i
+}
+
+fn hex_digit(b: u8) -> u64 {
+    match b {
+        b'0'..=b'9' => (b - b'0') as u64,
+        b'a'..=b'f' => (b - b'a') as u64 + 10,
+        _ => 16,
+    }
+}
+
+// A hexadecimal number, up to the first byte that is no digit.
+pub fn hex(line: &[u8], at: usize) -> u64 {
+    let mut x = 0u64;
+    let mut i = at;
+    while i < line.len() {
+        let d = hex_digit(line[i]);
+        if d > 15 {
+            return x;
+        }
+        x = (x << 4) | d;
+        i += 1;
+    }
+    x
+}
+
+fn digit(b: u8) -> u64 {
+    match b {
+        b'0'..=b'9' => (b - b'0') as u64,
+        _ => 10,
+    }
+}
+
+// A decimal number, up to the first byte that is no digit; 255 for one above it.
+pub fn decimal(line: &[u8], at: usize) -> u8 {
+    let mut x = 0u64;
+    let mut i = at;
+    while i < line.len() {
+        let d = digit(line[i]);
+        if d > 9 {
+            return least(x);
+        }
+        x = shifted(x, d);
+        i += 1;
+    }
+    least(x)
+}
+
+// A number with one more digit, 255 where it grows above it.
+fn shifted(x: u64, d: u64) -> u64 {
+    if x > 25 {
+        return 255;
+    }
+    if d > 9 {
+        return 255;
+    }
+    x * 10 + d
+}
+
+fn least(x: u64) -> u8 {
+    if x > 255 { 255 } else { x as u8 }
+}
+
+// `w` or `b`.
+pub fn turn(b: u8) -> Color {
+    if b == b'w' {
+        Color::White
+    } else {
+        Color::Black
+    }
+}
+
+// Whether a letter stands in the field at a place.
+fn marked(line: &[u8], at: usize, letter: u8) -> bool {
+    let mut i = at;
+    while i < line.len() {
+        let b = line[i];
+        if b == b' ' {
+            return false;
+        }
+        if b == letter {
+            return true;
+        }
+        i += 1;
+    }
+    false
+}
+
+// The rights of a colour, by its letters.
+pub fn rights(line: &[u8], at: usize, short: u8, long: u8) -> CastleRights {
+    placing::inner::rights_for(marked(line, at, short), marked(line, at, long))
+}
+
+// `-`, `?` or the number of a square.
+pub fn state(line: &[u8], at: usize) -> EnPassantFlag {
+    let b = byte(line, at);
+    match b {
+        b'-' => EnPassantFlag::None,
+        b'?' => EnPassantFlag::Any,
+        _ => EnPassantFlag::Some(decimal(line, at)),
+    }
+}
+
+// `source,target,uncaptured,mark` in numbers.
+pub fn retraction(line: &[u8], at: usize) -> ChessRetraction {
+    let to = after(line, at, b',');
+    let taken = after(line, to, b',');
+    let mark = after(line, taken, b',');
+    ChessRetraction {
+        source: decimal(line, at),
+        target: decimal(line, to),
+        uncaptured: decimal(line, taken),
+        unpromotion: decimal(line, mark) != 0,
+    }
+}
