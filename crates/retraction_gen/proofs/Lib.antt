@@ -1,1 +1,4 @@
 pub mod Filled
+pub mod Lowest
+pub mod Going
+pub mod Sources

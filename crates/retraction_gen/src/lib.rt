@@ -2,11 +2,15 @@
 use accept::Refusal;
 use accept::Verdict;
 use board::RetractableBoard;
+use laws::ChessRetraction;
 use roll::RetractionList;
 use roll::SourceAndTargets;
 ghost use mathlib.Core.Path.{_≡_};
 ghost use Rattle.geometry.specs.Lines.{IsBetween};
 ghost use Rattle.retraction_gen.specs.Making.{startOf, refusedMade, madeFrom, madeOf, maskedOf};
+ghost use Rattle.retraction_gen.specs.Cursors.{nextOf};
+
+pub mod inner; // inner.rt: one turn of the cursor
 
 // The entries, 47 at most; the place of the entry in work and the number of its uncapture; the squares of each uncapture.
 pub struct RetractionGen {
@@ -27,6 +31,29 @@ pub struct Made {
 pub struct Masks {
     pub verdict: Verdict,
     pub masks: [u64; 6],
+}
+
+pub enum Next {
+    Retraction(ChessRetraction),
+    End,
+}
+
+// The cursor moved on, and its answer.
+pub struct Stepped {
+    pub cursor: RetractionGen,
+    pub next: Next,
+}
+
+// What one turn of `next` comes to.
+pub enum Turn {
+    Again,
+    Found(ChessRetraction),
+    Over,
+}
+
+pub struct Turned {
+    pub cursor: RetractionGen,
+    pub turn: Turn,
 }
 
 // A cursor at its start.
@@ -96,6 +123,38 @@ impl RetractionGen {
         match v {
             Verdict::Refused(why) => refused(why),
             Verdict::Accepted => made_from(&t, b),
+        }
+    }
+
+    // The next retraction, or the end. A malformed cursor is at the end.
+    pub fn next(mut self) -> Stepped
+        ensures { λ r. ⌜ r ≡ nextOf self ⌝ }
+    {
+        if !inner::well_formed(self) {
+            return Stepped {
+                cursor: self,
+                next: Next::End,
+            };
+        }
+        loop {
+            let t = inner::one_turn(self);
+            let turn = t.turn;
+            self = t.cursor;
+            match turn {
+                Turn::Again => {}
+                Turn::Found(r) => {
+                    return Stepped {
+                        cursor: self,
+                        next: Next::Retraction(r),
+                    };
+                }
+                Turn::Over => {
+                    return Stepped {
+                        cursor: self,
+                        next: Next::End,
+                    };
+                }
+            }
         }
     }
 }
