@@ -44,7 +44,7 @@ weigh-drop (e ∷ es) (suc i) = weigh-drop es i
 one-less : (s : ℕ) → lowestOf s < 64 → length (members (setOf (besides s (lowestOf s)))) < length (members s)
 one-less s h = omega (arith, ap length (members-lowest s h))
 
-lowest-none : lowestOf 0 ≡ 64
+pub lowest-none : lowestOf 0 ≡ 64
 unfolding lowestOf
 lowest-none = ap (headOr 64) members-none
 

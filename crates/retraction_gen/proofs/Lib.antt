@@ -2,3 +2,6 @@ pub mod Filled
 pub mod Lowest
 pub mod Going
 pub mod Sources
+pub mod Remaining
+pub mod Sourced
+pub mod Whole
