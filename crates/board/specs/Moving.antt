@@ -56,6 +56,10 @@ replayGate b = replayGateBy (b .pieces) (b .colors) (b .turn) (b .white) (b .bla
 abbrev pub replayedBoard : RetractableBoard → ChessRetraction → ℕ → Boarded
 replayedBoard b r k = elseBoard (replayGate b) (boardedOf (replayTo (posOn b) r k))
 
+-- raw men of a board that replay takes, through 1 to 5
+abbrev pub earlierOf : List ℕ → List ℕ → Color → CastleRights → CastleRights → EnPassantFlag → Boarded
+earlierOf p k c w b st = boardedBy (fiveOf p k c (rightsOf w b) st) (workedOf p k c w b st)
+
 -- what is asked of an answer whose board is worked out
 abbrev pub Sound : Unmade → Type 0
 Sound u = u .verdict ≡ Accepted → Clean (u .position .pieces) (u .position .colors) × (kingsOk (menAt (u .position .pieces) (u .position .colors)) ≡ true)

@@ -13,6 +13,7 @@ ghost use Rattle.laws.specs.Acceptance.{kingsOk};
 ghost use Rattle.laws.specs.Boards.{menAt, Clean};
 ghost use Rattle.board.specs.Gate.{freshBy, gateOf};
 ghost use Rattle.board.specs.Answers.{workedOf, newOf};
+ghost use Rattle.board.specs.Moving.{earlierOf};
 
 pub mod moving; // moving.rt: un-make and replay of a board
 
@@ -101,6 +102,29 @@ pub fn board_from(
     ensures { λ r. ⌜ r ≡ newOf pieces colors turn white black passant ⌝ }
 {
     let v = accept::inner::judge(t, pieces, colors, turn, white, black, passant);
+    match v {
+        Verdict::Refused(r) => super::board_by(Verdict::Refused(r), super::no_board()),
+        Verdict::Accepted => {
+            let b = worked(t, pieces, colors, turn, white, black, passant);
+            super::board_by(Verdict::Accepted, b)
+        }
+    }
+}
+
+// A board that replay takes, from raw men: refusals 1 to 5.
+pub fn earlier_from(
+    t: &[u64; 4096],
+    pieces: [u64; 6],
+    colors: [u64; 2],
+    turn: Color,
+    white: CastleRights,
+    black: CastleRights,
+    passant: EnPassantFlag,
+) -> Boarded
+    requires { ⌜ IsBetween (now t) ⌝ }
+    ensures { λ r. ⌜ r ≡ earlierOf pieces colors turn white black passant ⌝ }
+{
+    let v = accept::inner::five(pieces, colors, turn, white, black, passant);
     match v {
         Verdict::Refused(r) => super::board_by(Verdict::Refused(r), super::no_board()),
         Verdict::Accepted => {

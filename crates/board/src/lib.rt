@@ -9,7 +9,7 @@ use laws::Piece;
 ghost use mathlib.Core.Path.{_≡_};
 ghost use Rattle.board.specs.Gate.{gateOf, noBoard, boardedBy};
 ghost use Rattle.board.specs.Answers.{newOf, pieceOnOf, toldBy, attackedOf, passantVerdict, setPassantOf, uncertain, uncertainOf, pieceNumbered};
-ghost use Rattle.board.specs.Moving.{unmadeBoard, replayedBoard};
+ghost use Rattle.board.specs.Moving.{earlierOf, unmadeBoard, replayedBoard};
 
 pub mod inner; // inner.rt: the gate over a lent table
 
@@ -91,6 +91,21 @@ impl RetractableBoard {
     {
         let t = tables::between_table();
         inner::board_from(&t, pieces, colors, turn, white, black, passant)
+    }
+
+    // A board that may have the retractor's king attacked, for replay: refusals 1 to 5.
+    pub fn earlier(
+        pieces: [u64; 6],
+        colors: [u64; 2],
+        turn: Color,
+        white: CastleRights,
+        black: CastleRights,
+        passant: EnPassantFlag,
+    ) -> Boarded
+        ensures { λ r. ⌜ r ≡ earlierOf pieces colors turn white black passant ⌝ }
+    {
+        let t = tables::between_table();
+        inner::earlier_from(&t, pieces, colors, turn, white, black, passant)
     }
 
     // The gate: refusals 1 to 7 of any value.
