@@ -1,0 +1,38 @@
+-- `limited::is_limited_in_retractions` meets its contract.
+use mathlib.Core.Path.{_∙_, sym}
+use borrow.Author.Needs.{needs}
+use Rattle.limited.proofs.is_limited_in_retractions.Statement.{statement}
+use Rattle.limited.proofs.is_limited_in_retractions.Tie as tie
+
+between-table-requires : tie.Need-between-table-requires
+between-table-requires c κs = search needs
+
+gate-requires : tie.Need-gate-requires
+gate-requires c κs = search needs
+
+enum-known-v : tie.Need-enum-known-v
+enum-known-v c = search needs
+
+enum-told : tie.Need-enum-told
+enum-told c = search needs
+
+limited-from-requires : tie.Need-limited-from-requires
+limited-from-requires c κs = search needs
+
+returns : tie.Need-returns
+returns c = rw (sym (c .before .before .before .gate .ensures) ∙ c .before .v .given .1)
+
+returns-2 : tie.Need-returns-2
+returns-2 c = rw (c .limited-from .ensures, sym (c .before .before .before .before .gate .ensures) ∙ c .before .before .enum-told .given .1)
+
+pub is-limited-in-retractions-spec : {M : Type 1} → statement M
+is-limited-in-retractions-spec =
+    tie.close
+    (tie.spec
+    between-table-requires
+    gate-requires
+    enum-known-v
+    enum-told
+    limited-from-requires
+    returns
+    returns-2)

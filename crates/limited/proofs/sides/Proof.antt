@@ -1,0 +1,50 @@
+-- `limited::sides` meets its contract.
+use mathlib.Core.Path.{_∙_, sym}
+use borrow.Author.Needs.{needs}
+use Rattle.limited.specs.Limiting.{sidesOf}
+use Rattle.limited.proofs.sides.Statement.{statement}
+use Rattle.limited.proofs.sides.Tie as tie
+
+side-requires : tie.Need-side-requires
+side-requires c κs = search needs
+
+enum-told : tie.Need-enum-told
+enum-told c = search needs
+
+enum-known-first : tie.Need-enum-known-first
+enum-known-first c = search needs
+
+enum-told-2 : tie.Need-enum-told-2
+enum-told-2 c = search needs
+
+other-requires : tie.Need-other-requires
+other-requires c κs = search needs
+
+side-requires-2 : tie.Need-side-requires-2
+side-requires-2 c κs = search needs
+
+returns : tie.Need-returns
+unfolding sidesOf
+returns c = rw (sym (c .before .before .side .ensures) ∙ c .enum-told .given .1)
+
+returns-2 : tie.Need-returns-2
+unfolding sidesOf
+returns-2 c = rw (sym (c .before .before .before .side .ensures) ∙ c .before .first .given .1)
+
+returns-3 : tie.Need-returns-3
+unfolding sidesOf
+returns-3 c = rw (c .side2 .ensures, c .before .other .ensures, sym (c .before .before .before .before .side .ensures) ∙ c .before .before .enum-told2 .given .1)
+
+pub sides-spec : {M : Type 1} → statement M
+sides-spec =
+    tie.close
+    (tie.spec
+    side-requires
+    enum-told
+    enum-known-first
+    enum-told-2
+    other-requires
+    side-requires-2
+    returns
+    returns-2
+    returns-3)

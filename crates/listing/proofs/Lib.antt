@@ -1,0 +1,4 @@
+pub mod Filling
+pub mod Lengths
+pub mod Walking
+pub mod Told

@@ -1,0 +1,7 @@
+pub mod Filled
+pub mod Lowest
+pub mod Going
+pub mod Sources
+pub mod Remaining
+pub mod Sourced
+pub mod Whole

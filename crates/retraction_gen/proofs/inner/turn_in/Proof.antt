@@ -1,0 +1,75 @@
+-- `retraction_gen::inner::turn_in` meets its contract.
+use borrow.Author.Tests.{le-leb, lt-leb}
+use borrow.Author.Needs.{needs}
+use Rattle.retraction_gen.specs.Cursors.{turnIn}
+use Rattle.retraction_gen.proofs.inner.turn_in.Statement.{statement}
+use Rattle.retraction_gen.proofs.inner.turn_in.Tie as tie
+
+mul-e : tie.Need-mul-e
+mul-e c = search needs
+
+element-copy-out-e : tie.Need-element-copy-out-e
+element-copy-out-e c = search needs
+
+lowest-target-requires : tie.Need-lowest-target-requires
+lowest-target-requires c κs = search needs
+
+passes-requires : tie.Need-passes-requires
+passes-requires c κs = search needs
+
+spend-requires : tie.Need-spend-requires
+spend-requires c κs = search needs
+
+returns : tie.Need-returns
+unfolding turnIn
+returns c = rw (← c .before .before .passes .ensures, c .before .if1 .taken, c .spend .ensures, c .before .before .before .lowest-target .ensures)
+
+spend-requires-2 : tie.Need-spend-requires-2
+spend-requires-2 c κs = search needs
+
+returns-2 : tie.Need-returns-2
+unfolding turnIn
+returns-2 c = rw (← c .before .before .before .passes .ensures, c .before .before .if1 .left, le-leb _ _ (c .before .if2 .taken), c .spend2 .ensures)
+
+add-g2 : tie.Need-add-g2
+add-g2 c = search needs
+
+cast-is-barred : tie.Need-cast-is-barred
+cast-is-barred c = search needs
+
+mul-is-barred : tie.Need-mul-is-barred
+mul-is-barred c = search needs
+
+element-copy-out-is-barred : tie.Need-element-copy-out-is-barred
+element-copy-out-is-barred c = search needs
+
+is-barred-requires : tie.Need-is-barred-requires
+is-barred-requires c κs = search needs
+
+returns-3 : tie.Need-returns-3
+unfolding turnIn
+returns-3 c = rw (← c .before .before .before .before .before .passes .ensures, c .before .before .before .before .if1 .left, lt-leb _ _ (c .before .before .before .if2 .left), ← c .before .is-barred .ensures, c .if3 .taken)
+
+returns-4 : tie.Need-returns-4
+unfolding turnIn
+returns-4 c = rw (← c .before .before .before .before .before .passes .ensures, c .before .before .before .before .if1 .left, lt-leb _ _ (c .before .before .before .if2 .left), ← c .before .is-barred .ensures, c .if3 .left, c .before .before .before .before .before .before .lowest-target .ensures)
+
+pub turn-in-spec : {M : Type 1} → statement M
+turn-in-spec =
+    tie.close
+    (tie.spec
+    mul-e
+    element-copy-out-e
+    lowest-target-requires
+    passes-requires
+    spend-requires
+    returns
+    spend-requires-2
+    returns-2
+    add-g2
+    cast-is-barred
+    mul-is-barred
+    element-copy-out-is-barred
+    is-barred-requires
+    returns-3
+    returns-4)

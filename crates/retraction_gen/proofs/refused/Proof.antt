@@ -1,0 +1,18 @@
+-- `retraction_gen::refused` meets its contract.
+use borrow.Author.Needs.{needs}
+use Rattle.retraction_gen.specs.Making.{refusedMade}
+use Rattle.retraction_gen.proofs.refused.Statement.{statement}
+use Rattle.retraction_gen.proofs.refused.Tie as tie
+
+overfull-requires : tie.Need-overfull-requires
+overfull-requires c κs = search needs
+
+started-requires : tie.Need-started-requires
+started-requires c κs = search needs
+
+returns : tie.Need-returns
+unfolding refusedMade
+returns c = rw (c .started .ensures, c .before .overfull .ensures)
+
+pub refused-spec : {M : Type 1} → statement M
+refused-spec = tie.close (tie.spec overfull-requires started-requires returns)

@@ -1,0 +1,30 @@
+-- `retraction_gen::uncaptured_candidates` meets its contract.
+use mathlib.Core.Path.{_∙_, sym}
+use borrow.Author.Needs.{needs}
+use Rattle.retraction_gen.specs.Making.{masksOn}
+use Rattle.retraction_gen.proofs.uncaptured_candidates.Statement.{statement}
+use Rattle.retraction_gen.proofs.uncaptured_candidates.Tie as tie
+
+judge-requires : tie.Need-judge-requires
+judge-requires c κs = search needs
+
+enum-known-v : tie.Need-enum-known-v
+enum-known-v c = search needs
+
+enum-told : tie.Need-enum-told
+enum-told c = search needs
+
+candidates-requires : tie.Need-candidates-requires
+candidates-requires c κs = search needs
+
+returns : tie.Need-returns
+returns c = rw (sym (c .before .before .before .judge .ensures) ∙ c .before .v .given .1)
+
+returns-2 : tie.Need-returns-2
+unfolding masksOn
+returns-2 c = rw (sym (c .before .before .before .before .before .judge .ensures) ∙ c .before .before .before .enum-told .given .1, c .candidates .ensures)
+
+pub uncaptured-candidates-spec : {M : Type 1} → statement M
+uncaptured-candidates-spec =
+    tie.close
+    (tie.spec judge-requires enum-known-v enum-told candidates-requires returns returns-2)

@@ -1,0 +1,131 @@
+-- The iterator (retraction_gen.rs, 340 to 385), one turn of `next` at a time. `targets_mask` is `!EMPTY` in all that is taken, so it is left out.
+use mathlib.Core.Bool.{Bool, true, false, not, cond}
+use mathlib.Core.List.{List, [], _∷_}
+use Prim.Native.Nat.{ℕ, zero, suc, _+_, _-_, _*_}
+use lib.Dec.{eqb, leb, ltb}
+use lib.ListN.{length, getD, set, take, drop}
+use Rattle.squares.specs.Tests.{_and_, _or_}
+use Rattle.squares.specs.Squares.{has, setOf, besides}
+use Rattle.squares.specs.Members.{members, headOr}
+use Rattle.laws.specs.declared.ChessRetraction.{ChessRetraction}
+use Rattle.roll.specs.declared.UnCaptureKind.{UnCaptureKind}
+use Rattle.roll.specs.declared.UnCaptureKind.the-variants.{Optional, Necessary, Forbidden, UnEnPassant}
+use Rattle.roll.specs.declared.SourceAndTargets.{SourceAndTargets}
+use Rattle.roll.specs.Roll.{noEntry, entryOf}
+use Rattle.retraction_gen.specs.declared.RetractionGen.{RetractionGen}
+use Rattle.retraction_gen.specs.declared.Turn.{Turn}
+use Rattle.retraction_gen.specs.declared.Turn.the-variants.{Again, Found, Over}
+use Rattle.retraction_gen.specs.declared.Turned.{Turned}
+use Rattle.retraction_gen.specs.declared.Next.{Next}
+use Rattle.retraction_gen.specs.declared.Next.the-variants.{Retraction, End}
+use Rattle.retraction_gen.specs.declared.Stepped.{Stepped}
+
+abbrev pub withEntries : RetractionGen → List SourceAndTargets → RetractionGen
+withEntries g es = record { entries = es; len = g .len; index = g .index; uncaptured = g .uncaptured; masks = g .masks }
+
+abbrev pub withIndex : RetractionGen → ℕ → RetractionGen
+withIndex g i = record { entries = g .entries; len = g .len; index = i; uncaptured = g .uncaptured; masks = g .masks }
+
+abbrev pub withUncaptured : RetractionGen → ℕ → RetractionGen
+withUncaptured g u = record { entries = g .entries; len = g .len; index = g .index; uncaptured = u; masks = g .masks }
+
+abbrev pub turned : RetractionGen → Turn → Turned
+turned g t = record { cursor = g; turn = t }
+
+abbrev pub stepped : RetractionGen → Next → Stepped
+stepped g a = record { cursor = g; next = a }
+
+-- `self.retractions[self.index]`
+abbrev pub entryAt : RetractionGen → SourceAndTargets
+entryAt g = getD (g .entries) (g .index) noEntry
+
+-- "targets from the lowest square": the lowest, 64 of the empty set
+unfoldable pub lowestOf : ℕ → ℕ
+lowestOf s = headOr 64 (members s)
+
+-- `retraction.targets ^= BitBoard::from_square(target)`, of the lowest target
+abbrev pub lessened : SourceAndTargets → SourceAndTargets
+lessened e = entryOf (e .source) (setOf (besides (e .targets) (lowestOf (e .targets)))) (e .kind) (e .unpromotion)
+
+unfoldable pub spent : RetractionGen → RetractionGen
+spent g = withEntries g (set (g .entries) (g .index) (lessened (entryAt g)))
+
+-- `retraction.uncapture_kind == UnCaptureKind::UnEnPassant`
+abbrev pub passing : UnCaptureKind → Bool
+passing Optional = false
+passing Necessary = false
+passing Forbidden = false
+passing UnEnPassant = true
+
+-- `uncapture_kind == Necessary && uncaptured.is_none() || uncapture_kind == Forbidden && uncaptured.is_some()`
+abbrev pub against : UnCaptureKind → ℕ → Bool
+against Optional u = false
+against Necessary u = eqb u 0
+against Forbidden u = not (eqb u 0)
+against UnEnPassant u = false
+
+-- `uncaptured_mask & BitBoard::from_square(retraction.source) == EMPTY || ..`
+unfoldable pub barred : ℕ → ℕ → UnCaptureKind → ℕ → Bool
+barred mask s k u = not (has mask s) or against k u
+
+-- `ChessRetraction::new(retraction.source, target, None, false)`
+abbrev pub passedTo : SourceAndTargets → ℕ → ChessRetraction
+passedTo e t = record { source = e .source; target = t; uncaptured = 0; unpromotion = false }
+
+-- `ChessRetraction::new(retraction.source, target, uncaptured, retraction.unpromotion)`
+abbrev pub uncapturedTo : SourceAndTargets → ℕ → ℕ → ChessRetraction
+uncapturedTo e t u = record { source = e .source; target = t; uncaptured = u; unpromotion = e .unpromotion }
+
+-- a turn at an entry that has a target (353 to 384)
+unfoldable pub turnIn : RetractionGen → SourceAndTargets → Turned
+turnIn g e =
+    cond (passing (e .kind)) (turned (spent g) (Found (passedTo e (lowestOf (e .targets)))))
+    (cond (leb 6 (g .uncaptured)) (turned (withUncaptured (spent g) 0) Again)
+    (cond (barred (getD (g .masks) (g .uncaptured) 0) (e .source) (e .kind) (g .uncaptured)) (turned (withUncaptured g (g .uncaptured + 1)) Again)
+    (turned (withUncaptured g (g .uncaptured + 1)) (Found (uncapturedTo e (lowestOf (e .targets)) (g .uncaptured))))))
+
+-- `if self.index >= self.retractions.len()` (344); there are 47 places
+unfoldable pub onEntry : RetractionGen → Bool
+onEntry g = ltb (g .index) (g .len) and ltb (g .index) 47
+
+-- one turn: the end, an entry without targets (348 to 351), or a turn at a target
+unfoldable pub turnOf : RetractionGen → Turned
+turnOf g =
+    cond (onEntry g)
+    (cond (ltb 63 (lowestOf (entryAt g .targets))) (turned (withIndex g (g .index + 1)) Again) (turnIn g (entryAt g)))
+    (turned g Over)
+
+-- how many targets are left
+unfoldable pub weigh : List SourceAndTargets → ℕ
+weigh [] = 0
+weigh (e ∷ es) = length (members (e .targets)) + weigh es
+
+-- more than the turns that are left
+unfoldable pub fuel : RetractionGen → ℕ
+fuel g = (47 - g .index) + weigh (drop (g .index) (g .entries)) * 7 + (6 - g .uncaptured)
+
+abbrev pub answered : Turn → RetractionGen → Stepped → Stepped
+answered Again g later = later
+answered (Found r) g later = stepped g (Retraction r)
+answered Over g later = stepped g End
+
+-- turns (`return self.next()`), until one answers
+unfoldable pub runOf : ℕ → RetractionGen → Stepped
+runOf zero g = stepped g End
+runOf (suc n) g = answered (turnOf g .turn) (turnOf g .cursor) (runOf n (turnOf g .cursor))
+
+unfoldable pub stepOf : RetractionGen → Stepped
+stepOf g = runOf (suc (fuel g)) g
+
+-- every source is a square
+unfoldable pub sound : List SourceAndTargets → Bool
+sound [] = true
+sound (e ∷ es) = ltb (e .source) 64 and sound es
+
+-- "A cursor with a length above 47 or, below its length, a source above 63" is none of these
+unfoldable pub wellFormed : RetractionGen → Bool
+wellFormed g = leb (g .len) 47 and sound (take (g .len) (g .entries))
+
+-- ".. answers the end and comes back unchanged"
+abbrev pub nextOf : RetractionGen → Stepped
+nextOf g = cond (wellFormed g) (stepOf g) (stepped g End)

@@ -1,0 +1,183 @@
+// The cursor over a board's retractions: the Rust's retraction_gen.rs.
+use accept::Refusal;
+use accept::Verdict;
+use board::RetractableBoard;
+use laws::ChessRetraction;
+use roll::RetractionList;
+use roll::SourceAndTargets;
+ghost use mathlib.Core.Path.{_≡_};
+ghost use Rattle.geometry.specs.Lines.{IsBetween};
+ghost use Rattle.retraction_gen.specs.Making.{startOf, refusedMade, madeFrom, madeOf, maskedOf};
+ghost use Rattle.retraction_gen.specs.Cursors.{nextOf};
+
+pub mod inner; // inner.rt: one turn of the cursor
+
+// The entries, 47 at most; the place of the entry in work and the number of its uncapture; the squares of each uncapture.
+pub struct RetractionGen {
+    pub entries: [SourceAndTargets; 47],
+    pub len: usize,
+    pub index: usize,
+    pub uncaptured: u8,
+    pub masks: [u64; 6],
+}
+
+// A cursor, or a refusal beside the empty cursor.
+pub struct Made {
+    pub verdict: Verdict,
+    pub cursor: RetractionGen,
+}
+
+// The six masks, or a refusal beside empty ones.
+pub struct Masks {
+    pub verdict: Verdict,
+    pub masks: [u64; 6],
+}
+
+pub enum Next {
+    Retraction(ChessRetraction),
+    End,
+}
+
+// The cursor moved on, and its answer.
+pub struct Stepped {
+    pub cursor: RetractionGen,
+    pub next: Next,
+}
+
+// What one turn of `next` comes to.
+pub enum Turn {
+    Again,
+    Found(ChessRetraction),
+    Over,
+}
+
+pub struct Turned {
+    pub cursor: RetractionGen,
+    pub turn: Turn,
+}
+
+// A cursor at its start.
+fn started(list: RetractionList, masks: [u64; 6]) -> RetractionGen
+    ensures { λ r. ⌜ r ≡ startOf list masks ⌝ }
+{
+    let entries = list.entries;
+    RetractionGen {
+        entries,
+        len: list.len,
+        index: 0,
+        uncaptured: 0,
+        masks,
+    }
+}
+
+fn refused(why: Refusal) -> Made
+    ensures { λ r. ⌜ r ≡ refusedMade why ⌝ }
+{
+    let none = roll::inner::overfull();
+    Made {
+        verdict: Verdict::Refused(why),
+        cursor: started(none, [0; 6]),
+    }
+}
+
+// The cursor of an accepted board, or FULL.
+fn made_from(t: &[u64; 4096], b: RetractableBoard) -> Made
+    requires { ⌜ IsBetween (now t) ⌝ }
+    ensures { λ r. ⌜ r ≡ madeFrom b ⌝ }
+{
+    let pieces = b.pieces;
+    let colors = b.colors;
+    let turn = b.turn;
+    let white = b.white;
+    let black = b.black;
+    let passant = b.passant;
+    let list = enumerate::inner::enumerate(
+        t,
+        pieces,
+        colors,
+        b.combined,
+        turn,
+        white,
+        black,
+        b.pinned,
+        b.checkers,
+        passant,
+    );
+    if list.full {
+        return refused(Refusal::Full);
+    }
+    let masks = masks::inner::candidates(pieces, colors, turn);
+    Made {
+        verdict: Verdict::Accepted,
+        cursor: started(list, masks),
+    }
+}
+
+impl RetractionGen {
+    // The cursor of a board: refusals 1 to 7, then 8.
+    pub fn new_legal(b: RetractableBoard) -> Made
+        ensures { λ r. ⌜ r ≡ madeOf b ⌝ }
+    {
+        let t = tables::between_table();
+        let v = board::inner::gate(&t, b);
+        match v {
+            Verdict::Refused(why) => refused(why),
+            Verdict::Accepted => made_from(&t, b),
+        }
+    }
+
+    // The next retraction, or the end. A malformed cursor is at the end.
+    pub fn next(mut self) -> Stepped
+        ensures { λ r. ⌜ r ≡ nextOf self ⌝ }
+    {
+        if !inner::well_formed(self) {
+            return Stepped {
+                cursor: self,
+                next: Next::End,
+            };
+        }
+        loop {
+            let t = inner::one_turn(self);
+            let turn = t.turn;
+            self = t.cursor;
+            match turn {
+                Turn::Again => {}
+                Turn::Found(r) => {
+                    return Stepped {
+                        cursor: self,
+                        next: Next::Retraction(r),
+                    };
+                }
+                Turn::Over => {
+                    return Stepped {
+                        cursor: self,
+                        next: Next::End,
+                    };
+                }
+            }
+        }
+    }
+}
+
+// The squares where each man may have been uncaptured: refusals 1 to 7.
+pub fn uncaptured_candidates(b: RetractableBoard) -> Masks
+    ensures { λ r. ⌜ r ≡ maskedOf b ⌝ }
+{
+    let v = b.judge();
+    match v {
+        Verdict::Refused(why) => Masks {
+            verdict: Verdict::Refused(why),
+            masks: [0; 6],
+        },
+        Verdict::Accepted => {
+            let pieces = b.pieces;
+            let colors = b.colors;
+            let turn = b.turn;
+            let masks = masks::inner::candidates(pieces, colors, turn);
+            Masks {
+                verdict: Verdict::Accepted,
+                masks,
+            }
+        }
+    }
+}
