@@ -4,7 +4,8 @@ use libc::STDOUT_FILENO;
 ghost use Prim.Native.Nat.{_≤_};
 ghost use lib.ListN.{length};
 
-mod fields; // fields.rt: numbers, squares of raw men and retractions read from a line
+mod fields; // fields.rt: numbers, raw men and retractions read from a line
+mod lists; // lists.rt: the masks and entries of a cursor, written
 mod verbs; // verbs.rt: what each verb answers
 
 fn main() {
@@ -32,7 +33,7 @@ fn answer_all(chunk: &mut [u8; 65536], line: &mut [u8; 512]) {
 fn answer(line: &[u8], len: usize)
     requires { ⌜ len ≤ length (now line) ⌝ }
 {
-    let mut out = [0u8; 1024];
+    let mut out = [0u8; 2048];
     let n = verbs::reply(&line[..len], &mut out);
     io::write_all(STDOUT_FILENO, &out[..n]);
 }

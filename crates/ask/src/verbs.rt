@@ -1,25 +1,28 @@
 // What each verb answers: `refused N`, or what its line asks for.
 use super::fields;
+use super::lists;
 use accept::Refusal;
 use accept::Verdict;
 use board::Boarded;
 use board::RetractableBoard;
+use limited::Limited;
+use retraction_gen::RetractionGen;
 use text::Copied;
 use text::Raw;
 ghost use Prim.Native.Nat.{_≤_};
 ghost use lib.ListN.{length};
 
 // The answer and a newline go into `out`; answers how many bytes there are.
-pub fn reply(line: &[u8], out: &mut [u8; 1024]) -> usize
+pub fn reply(line: &[u8], out: &mut [u8; 2048]) -> usize
     ensures { λ n. ⌜ n ≤ length (now (out .exit)) ⌝ }
 {
     let n = by_verb(line, out);
     let end = feed::put_bytes(out, n, b"\n");
-    if end <= 1024 { end } else { 0 }
+    if end <= 2048 { end } else { 0 }
 }
 
 // A line without a known verb has an empty answer.
-fn by_verb(line: &[u8], out: &mut [u8; 1024]) -> usize {
+fn by_verb(line: &[u8], out: &mut [u8; 2048]) -> usize {
     let a = fields::byte(line, 0);
     let b = fields::byte(line, 1);
     if a == b'u' {
@@ -31,10 +34,16 @@ fn by_verb(line: &[u8], out: &mut [u8; 1024]) -> usize {
     if b == b'a' {
         return raw(line, out);
     }
+    if b == b'i' {
+        return limited(line, out);
+    }
+    if b == b'n' {
+        return entries(line, out);
+    }
     0
 }
 
-fn unmake(line: &[u8], out: &mut [u8; 1024]) -> usize {
+fn unmake(line: &[u8], out: &mut [u8; 2048]) -> usize {
     let at = fields::after(line, 0, b'\t');
     let r = fields::retraction(line, fields::after(line, at, b'\t'));
     let today = read(line, at);
@@ -49,7 +58,7 @@ fn unmake(line: &[u8], out: &mut [u8; 1024]) -> usize {
 }
 
 // The earlier board may fail 6.
-fn replay(line: &[u8], out: &mut [u8; 1024]) -> usize {
+fn replay(line: &[u8], out: &mut [u8; 2048]) -> usize {
     let at = fields::after(line, 0, b'\t');
     let move_at = fields::after(line, at, b'\t');
     let r = fields::retraction(line, move_at);
@@ -65,7 +74,7 @@ fn replay(line: &[u8], out: &mut [u8; 1024]) -> usize {
     }
 }
 
-fn raw(line: &[u8], out: &mut [u8; 1024]) -> usize {
+fn raw(line: &[u8], out: &mut [u8; 2048]) -> usize {
     let p = fields::after(line, 0, b'\t');
     let n = fields::after(line, p, b' ');
     let b = fields::after(line, n, b' ');
@@ -96,6 +105,38 @@ fn raw_board(line: &[u8], turn: usize, pieces: [u64; 6], colors: [u64; 2]) -> Bo
     let black = fields::rights(line, rights, b'k', b'q');
     let passant = fields::state(line, state);
     RetractableBoard::new(pieces, colors, color, white, black, passant)
+}
+
+fn limited(line: &[u8], out: &mut [u8; 2048]) -> usize {
+    let today = read(line, fields::after(line, 0, b'\t'));
+    let v = today.verdict;
+    match v {
+        Verdict::Refused(w) => put_refused(w, out),
+        Verdict::Accepted => {
+            let b = today.board;
+            put_limited(limited::is_limited_in_retractions(b), out)
+        }
+    }
+}
+
+fn entries(line: &[u8], out: &mut [u8; 2048]) -> usize {
+    let today = read(line, fields::after(line, 0, b'\t'));
+    let v = today.verdict;
+    match v {
+        Verdict::Refused(w) => put_refused(w, out),
+        Verdict::Accepted => {
+            let b = today.board;
+            lists::put_made(RetractionGen::new_legal(b), out)
+        }
+    }
+}
+
+fn put_limited(l: Limited, out: &mut [u8; 2048]) -> usize {
+    match l {
+        Limited::Yes => feed::put_bytes(out, 0, b"1"),
+        Limited::No => feed::put_bytes(out, 0, b"0"),
+        Limited::Refused(r) => put_refused(r, out),
+    }
 }
 
 // The place of the next tab, or the line's end.
@@ -150,13 +191,13 @@ fn earlier(raw: Raw) -> Boarded {
     }
 }
 
-fn put_refused(r: Refusal, out: &mut [u8; 1024]) -> usize {
+pub fn put_refused(r: Refusal, out: &mut [u8; 2048]) -> usize {
     let a = feed::put_bytes(out, 0, b"refused ");
     feed::put_decimal(out, a, accept::number(r) as u64)
 }
 
 // The text of a board, which may fail 6.
-fn put_text(b: RetractableBoard, out: &mut [u8; 1024]) -> usize {
+fn put_text(b: RetractableBoard, out: &mut [u8; 2048]) -> usize {
     let pieces = b.pieces;
     let colors = b.colors;
     let turn = b.turn;
@@ -171,7 +212,7 @@ fn put_text(b: RetractableBoard, out: &mut [u8; 1024]) -> usize {
     }
 }
 
-fn put_boarded(b: Boarded, out: &mut [u8; 1024]) -> usize {
+fn put_boarded(b: Boarded, out: &mut [u8; 2048]) -> usize {
     let v = b.verdict;
     match v {
         Verdict::Refused(r) => put_refused(r, out),
@@ -183,7 +224,7 @@ fn put_boarded(b: Boarded, out: &mut [u8; 1024]) -> usize {
 }
 
 // The text, the checkers and the pins.
-fn put_unmade(b: Boarded, out: &mut [u8; 1024]) -> usize {
+fn put_unmade(b: Boarded, out: &mut [u8; 2048]) -> usize {
     let n = put_boarded(b, out);
     let v = b.verdict;
     match v {

@@ -1,0 +1,55 @@
+-- `ask::lists::put_cursor` meets its contract.
+use Prim.Native.Nat.{_-_, _≤_}
+use native.Mathlib.Omega.{arith}
+use borrow.Author.Needs.{needs}
+use Rattle.ask.proofs.lists.put_cursor.Statement.{statement}
+use Rattle.ask.proofs.lists.put_cursor.Tie as tie
+
+abbrev Inv-loop : tie.InvT-loop
+Inv-loop g out₀ entries n₀ i₀ out n i = i ≤ 47
+
+abbrev μ-loop : tie.MeasureT-loop
+μ-loop g out₀ entries n₀ i₀ out n i = 47 - i
+
+put-masks-requires : tie.Need-put-masks-requires Inv-loop μ-loop
+put-masks-requires c κs = search needs
+
+loop-holds : tie.Need-loop-holds Inv-loop μ-loop
+loop-holds c = omega arith
+
+mul-put-entry : tie.Need-mul-put-entry Inv-loop μ-loop
+mul-put-entry c = omega arith
+
+array-copy-out-put-entry : tie.Need-array-copy-out-put-entry Inv-loop μ-loop
+array-copy-out-put-entry c = search needs
+
+put-entry-requires : tie.Need-put-entry-requires Inv-loop μ-loop
+put-entry-requires c κs = search needs
+
+add-i : tie.Need-add-i Inv-loop μ-loop
+add-i c = omega arith
+
+loop-less : tie.Need-loop-less Inv-loop μ-loop
+loop-less c = omega arith
+
+loop-again : tie.Need-loop-again Inv-loop μ-loop
+loop-again c = omega arith
+
+returns : tie.Need-returns Inv-loop μ-loop
+returns c = tt
+
+pub put-cursor-spec : {M : Type 1} → statement M
+put-cursor-spec =
+    tie.close
+    (tie.spec
+    Inv-loop
+    μ-loop
+    put-masks-requires
+    loop-holds
+    mul-put-entry
+    array-copy-out-put-entry
+    put-entry-requires
+    add-i
+    loop-less
+    loop-again
+    returns)
