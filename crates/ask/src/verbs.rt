@@ -6,6 +6,7 @@ use accept::Verdict;
 use board::Boarded;
 use board::RetractableBoard;
 use limited::Limited;
+use listing::Listed;
 use retraction_gen::RetractionGen;
 use text::Copied;
 use text::Raw;
@@ -39,6 +40,9 @@ fn by_verb(line: &[u8], out: &mut [u8; 2048]) -> usize {
     }
     if b == b'n' {
         return entries(line, out);
+    }
+    if b == b'o' {
+        return count(line, out);
     }
     0
 }
@@ -128,6 +132,28 @@ fn entries(line: &[u8], out: &mut [u8; 2048]) -> usize {
             let b = today.board;
             lists::put_made(RetractionGen::new_legal(b), out)
         }
+    }
+}
+
+// How many retractions the list has.
+fn count(line: &[u8], out: &mut [u8; 2048]) -> usize {
+    let today = read(line, fields::after(line, 0, b'\t'));
+    let v = today.verdict;
+    match v {
+        Verdict::Refused(w) => put_refused(w, out),
+        Verdict::Accepted => {
+            let b = today.board;
+            let mut slots = [0u16; 4096];
+            put_count(listing::retractions_into(b, &mut slots), out)
+        }
+    }
+}
+
+fn put_count(l: Listed, out: &mut [u8; 2048]) -> usize {
+    match l {
+        Listed::Count(n) => feed::put_decimal(out, 0, n as u64),
+        Listed::Room(n) => feed::put_decimal(out, 0, n as u64),
+        Listed::Refused(r) => put_refused(r, out),
     }
 }
 
