@@ -1,10 +1,12 @@
 -- What is known of a board that the gate lets pass: its men are clean, the position is accepted, and union, checkers and pins are the Laws'.
 use mathlib.Core.Path.{_≡_, refl}
-use mathlib.Core.Bool.{true}
+use mathlib.Core.Bool.{true, not}
 use mathlib.Core.List.{List}
 use Prim.Native.Nat.{ℕ, zero, suc, _/_}
+use lib.Dec.{eqb}
 use lib.ListN.{length}
 use borrow.Author.Tests.{eqb-true}
+use Rattle.squares.specs.Tests.{_and_}
 use Rattle.geometry.specs.declared.Color.{Color}
 use Rattle.geometry.specs.declared.Color.the-variants.{White, Black}
 use Rattle.laws.specs.declared.Piece.the-variants.{Pawn, Knight, Bishop, Rook, Queen, King}
@@ -12,16 +14,17 @@ use Rattle.laws.specs.declared.EnPassantFlag.{EnPassantFlag}
 use Rattle.laws.specs.Men.{Man, empty, man, manNumber}
 use Rattle.laws.specs.Attacks.{unionOf, checkersOf, pinsOf}
 use Rattle.laws.specs.Positions.{Rights, rightsOf}
-use Rattle.laws.specs.Acceptance.{kingsOk, quiet, accepted}
+use Rattle.laws.specs.Acceptance.{kingsOk, pawnsOk, rightsOk, stateOk, quiet, accepted}
 use Rattle.laws.specs.Boards.{menAt, menOk, Clean}
-use Rattle.accept.specs.declared.Refusal.the-variants.{Stale}
+use Rattle.accept.specs.declared.Refusal.the-variants.{Men as men, Kings as kings, Check as check, Stale}
 use Rattle.accept.specs.declared.Verdict.the-variants.{Accepted}
-use Rattle.accept.specs.Verdicts.{unless, judgedOf}
+use Rattle.accept.specs.Verdicts.{verdictNumber, unless, andThen, firstOf, thirdOf, fiveOf, judgedOf}
 use Rattle.board.specs.declared.RetractableBoard.{RetractableBoard}
 use Rattle.board.specs.declared.PieceOn.the-variants.{Kind}
 use Rattle.board.specs.Gate.{menOn, posOn, freshBy, gateBy, gateOf}
 use Rattle.board.specs.Answers.{kindOn, pieceNumbered}
-use Rattle.squares.proofs.Testing.{both, left, right}
+use Rattle.squares.proofs.Testing.{both, left, right, agree, agree-eq}
+use Rattle.laws.proofs.Cases.{by-cases}
 use Rattle.laws.proofs.Cleaning.{Bounded, clean}
 use Rattle.accept.proofs.Numbered.{Five, both-accept, test-passes, judged-passes}
 
@@ -67,6 +70,17 @@ gate-passed b h = record {
         test-passes (freshBy (menOn b) (b .turn) (b .combined) (b .checkers) (b .pinned)) Stale Accepted
         (both-accept (judgedOf (b .pieces) (b .colors) (b .turn) (rightsOf (b .white) (b .black)) (b .passant))
         (unless (freshBy (menOn b) (b .turn) (b .combined) (b .checkers) (b .pinned)) Stale Accepted) h .1) .0
+
+-- 7 is given exactly when 1 to 6 pass and union, checkers or pins are not those of the men
+pub stale-exactly : (b : RetractableBoard)
+    → eqb (verdictNumber (gateOf b)) 7 ≡ (menOk (b .pieces) (b .colors) and accepted (posOn b) and not (freshBy (menOn b) (b .turn) (b .combined) (b .checkers) (b .pinned)))
+unfolding gateBy judgedOf fiveOf thirdOf _and_
+stale-exactly b =
+    agree-eq _ _ (by-cases 7
+    (λ m k p r s q f. agree (eqb (verdictNumber (andThen (andThen (unless m men (unless k kings (firstOf (not p) (not r) (not s)))) (unless q check Accepted)) (unless f Stale Accepted))) 7)
+    (m and (k and p and r and s and q) and not f)) refl
+    (menOk (b .pieces) (b .colors)) (kingsOk (menOn b)) (pawnsOk (menOn b)) (rightsOk (menOn b) (rightsOf (b .white) (b .black))) (stateOk (menOn b) (b .turn) (b .passant)) (quiet (menOn b) (b .turn))
+    (freshBy (menOn b) (b .turn) (b .combined) (b .checkers) (b .pinned)))
 
 -- the kind by the number of the man
 pub kind-told : (x : Man) → pieceNumbered (manNumber x / 2) ≡ kindOn x
