@@ -94,7 +94,7 @@ module _ (pieces colors : List ℕ) (c : Color) (ρ : Rights) (st : EnPassantFla
   }
 
 -- a chain of verdicts that accepts
-never : (r : Refusal) → Refused r ≡ Accepted → ⊥
+pub never : (r : Refusal) → Refused r ≡ Accepted → ⊥
 never r e = let z : _≡_ {A = ℕ} 0 1 = cc in omega arith
 
 pub both-accept : (v w : Verdict) → andThen v w ≡ Accepted → (v ≡ Accepted) × (w ≡ Accepted)

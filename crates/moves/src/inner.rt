@@ -92,7 +92,7 @@ fn slides_to(t: &[u64; 4096], p: Position, k: u8, from: u8, to: u8) -> bool
 }
 
 // The step of the man numbered x, taking the man numbered u, or none.
-fn man_moves(t: &[u64; 4096], p: Position, x: u8, from: u8, to: u8, u: u8) -> bool
+pub fn man_moves(t: &[u64; 4096], p: Position, x: u8, from: u8, to: u8, u: u8) -> bool
     requires { ⌜ (IsBetween (now t) × Clean (p .pieces) (p .colors)) × ((from < 64) × (to < 64) × (x < 14)) ⌝ }
     ensures { λ r. ⌜ r ≡ movesFor (menIn p) (manOf x) from to u ⌝ }
 {
@@ -110,7 +110,7 @@ fn man_moves(t: &[u64; 4096], p: Position, x: u8, from: u8, to: u8, u: u8) -> bo
     slides_to(t, p, k, from, to)
 }
 
-fn is_named(state: EnPassantFlag, sq: u8) -> bool
+pub fn is_named(state: EnPassantFlag, sq: u8) -> bool
     ensures { λ r. ⌜ r ≡ isNamed state sq ⌝ }
 {
     match state {

@@ -66,7 +66,7 @@ fn after(p: Position, w: Way, c: Color, t: u8, s: u8, x: u8) -> Position
 }
 
 // The state after a move of the man numbered x: the pawn's square after a double step beside an enemy pawn, else none.
-fn state_after(p: Position, x: u8, t: u8, s: u8) -> EnPassantFlag
+pub fn state_after(p: Position, x: u8, t: u8, s: u8) -> EnPassantFlag
     requires { ⌜ Clean (p .pieces) (p .colors) × (s < 64) × (x < 14) ⌝ }
     ensures { λ r. ⌜ r ≡ stateFor (menIn p) (manOf x) t s ⌝ }
 {

@@ -15,7 +15,7 @@ ghost use Rattle.board.specs.Gate.{posOn, gateOf};
 ghost use Rattle.board.specs.Moving.{placedOn, boardedOf, replayGate, Sound};
 
 // A board's fields without the worked-out ones.
-fn placed(b: RetractableBoard) -> Position
+pub fn placed(b: RetractableBoard) -> Position
     ensures { λ p. ⌜ p ≡ placedOn b ⌝ }
 {
     let pieces = b.pieces;
