@@ -1,0 +1,4 @@
+pub mod Skipping
+pub mod Remaining
+pub mod Unique
+pub mod Told

@@ -1,0 +1,212 @@
+-- The Laws' strict list is demand 3's list of a board, and the contracts of the entries follow from it.
+use mathlib.Core.Path.{_≡_, refl, sym, ap, ap₂, _∙_, subst}
+use mathlib.Core.Logic.{_⊎_, inl, inr, _↔_}
+use mathlib.Core.Bool.{Bool, true, false}
+use mathlib.Core.List.{List, [], _∷_, map}
+use Prim.Native.Nat.{ℕ, zero, suc, _+_, _*_, _/_, _%_, _≤_, _<_}
+use lib.Dec.{eqb}
+use native.Mathlib.Omega.{arith}
+use borrow.Author.Tests.{eq-eqb}
+use lib.ListN.{length}
+use Rattle.laws.specs.declared.ChessRetraction.{ChessRetraction}
+use Rattle.laws.specs.Retractions.{InRange}
+use Rattle.laws.specs.Acceptance.{accepted}
+use Rattle.laws.specs.Strictness.{strict}
+use Rattle.squares.specs.Squares.{flag}
+use Rattle.laws.specs.StrictLists.{passing, place, placed, strictPlaces, Ascending, In, here, there}
+use Rattle.laws.specs.Boards.{Board, acceptedBoard, BoardPast}
+use Rattle.accept.specs.declared.Refusal.{Refusal}
+use Rattle.accept.specs.declared.Verdict.{Verdict}
+use Rattle.accept.specs.declared.Verdict.the-variants.{Accepted, Refused}
+use Rattle.accept.specs.Verdicts.{thirdOf, fiveOf, judgedOf}
+use Rattle.board.specs.declared.RetractableBoard.{RetractableBoard}
+use Rattle.board.specs.Gate.{posOn, toLaws, freshBy, gateBy, gateOf}
+use Rattle.listing.specs.declared.Listed.{Listed}
+use Rattle.listing.specs.declared.Listed.the-variants.{Refused as notListed}
+use Rattle.listing.specs.Listing.{roomFor, roomedIn, listedBy, slotsBy}
+use Rattle.strict.specs.declared.Counted.the-variants.{Count, Refused as notCounted}
+use Rattle.strict.specs.declared.LastMove.{LastMove}
+use Rattle.strict.specs.declared.LastMove.the-variants.{Exists, NoLastMove, Refused as notAnswered}
+use Rattle.strict.specs.Demand.{Past, Among, first, later, IsStrictList, Lists, countedBy, Counts, Answers, strictMoves}
+use Rattle.strict.specs.Searching.{testOf, Next}
+use Rattle.squares.proofs.Testing.{both, left, right}
+use Rattle.laws.proofs.Facts.{accepts}
+use Rattle.laws.proofs.StrictMembers.{placed-place, strict-in, strict-order, strict-member}
+use Rattle.laws.proofs.BoardPasts.{demand3}
+use Rattle.accept.proofs.Numbered.{never}
+use Rattle.board.proofs.Passing.{Passed, gate-passed}
+use Rattle.strict.proofs.Unique.{among-cases}
+use Rattle.strict.proofs.Remaining.{rest, all-rest, at-end, one-more}
+
+-- the Laws' record of a board is accepted exactly when the gate lets the board pass
+gate-by : (b : RetractableBoard) → acceptedBoard (toLaws b) ≡ true → gateOf b ≡ Accepted
+unfolding gateBy judgedOf fiveOf thirdOf freshBy
+gate-by b h =
+    let a = accepts (posOn b) (right _ _ (left _ _ h)) in rw (left _ _ (left _ _ h), a .kings, a .pawns, a .rights, a .state, a .calm, right _ _ h)
+
+accepted-by-gate : (b : RetractableBoard) → gateOf b ≡ Accepted → acceptedBoard (toLaws b) ≡ true
+accepted-by-gate b h =
+    let p : Passed b = gate-passed b h in both (both (p .men-agree) (p .lawful)) (both (both (eq-eqb _ _ (p .union-is)) (eq-eqb _ _ (p .checkers-are))) (eq-eqb _ _ (p .pins-are)))
+
+abbrev fromLaws : Board → RetractableBoard
+fromLaws e = record {
+  pieces = e .pieces;
+  colors = e .colors;
+  combined = e .combined;
+  turn = e .turn;
+  white = e .white;
+  black = e .black;
+  pinned = e .pinned;
+  checkers = e .checkers;
+  passant = e .passant;
+}
+
+past-is : (b : RetractableBoard) (r : ChessRetraction) → BoardPast (toLaws b) r ↔ Past b r
+past-is b r = (
+  (λ q. (fromLaws (q .0), q .1, q .2, gate-by (fromLaws (q .0)) (q .3), q .4)),
+  (λ q. (toLaws (q .0), q .1, q .2, accepted-by-gate (q .0) (q .3), q .4)),
+)
+
+-- a list of places and the retractions at them
+among-placed : (r : ChessRetraction) (is : List ℕ) → InRange r → In (place r) is → Among r (map placed is)
+among-placed r is h (here {is = js}) = subst (λ (q : ChessRetraction). Among r (q ∷ map placed js)) (sym (placed-place r h)) first
+among-placed r is h (there {is = js} z) = later (among-placed r js h z)
+
+among-passes : (f : ℕ → Bool) (i n : ℕ) (r : ChessRetraction) → Among r (map placed (passing f i n)) → (j : ℕ) × (r ≡ placed j) × (f j ≡ true)
+among-passes f i zero r z = elim z [ ]
+among-passes f i (suc n) r z = go (f i) refl z (among-passes f (suc i) n r)
+  where
+    go : (b : Bool) → f i ≡ b → Among r (map placed (elim b as (λ _. List ℕ) [ true ↦ i ∷ passing f (suc i) n | false ↦ passing f (suc i) n ]))
+        → (Among r (map placed (passing f (suc i) n)) → (j : ℕ) × (r ≡ placed j) × (f j ≡ true)) → (j : ℕ) × (r ≡ placed j) × (f j ≡ true)
+    go true q z ih = which (among-cases z)
+      where
+        which : (r ≡ placed i) ⊎ Among r (map placed (passing f (suc i) n)) → (j : ℕ) × (r ≡ placed j) × (f j ≡ true)
+        which (inl e) = (i, e, q)
+        which (inr k) = ih k
+    go false q z ih = ih z
+
+flag-is : (x : ℕ) → x < 2 → flag (eqb x 1) ≡ x
+flag-is zero h = refl
+flag-is (suc zero) h = refl
+flag-is (suc (suc n)) h = absurd (omega arith)
+
+place-placed : (j : ℕ) → j < 49152 → place (placed j) ≡ j
+place-placed j h =
+    ap (λ (x : ℕ). j / 768 * 768 + (j / 12 % 64 * 12 + (j / 2 % 6 * 2 + x))) (flag-is (j % 2) (omega arith)) ∙ omega (arith, sixth, twelfth)
+  where
+    sixth : j / 2 % 6 + j / 12 * 6 ≡ j / 2
+    sixth = omega arith
+
+    twelfth : j / 12 % 64 + j / 768 * 64 ≡ j / 12
+    twelfth = omega arith
+
+places-back : (f : ℕ → Bool) (i n : ℕ) → i + n ≤ 49152 → map place (map placed (passing f i n)) ≡ passing f i n
+places-back f i zero h = refl
+places-back f i (suc n) h = go (f i) (places-back f (suc i) n (omega arith))
+  where
+    go : (b : Bool) → map place (map placed (passing f (suc i) n)) ≡ passing f (suc i) n
+        → map place (map placed (elim b as (λ _. List ℕ) [ true ↦ i ∷ passing f (suc i) n | false ↦ passing f (suc i) n ]))
+        ≡ (elim b as (λ _. List ℕ) [ true ↦ i ∷ passing f (suc i) n | false ↦ passing f (suc i) n ])
+    go true e = ap₂ (λ (x : ℕ) (l : List ℕ). x ∷ l) (place-placed i (omega arith)) e
+    go false e = e
+
+-- demand 3 of an accepted board
+module _ (b : RetractableBoard) (h : gateOf b ≡ Accepted) where
+  lawful : accepted (posOn b) ≡ true
+  lawful = gate-passed b h .lawful
+
+  pub demanded : IsStrictList b (strictMoves (posOn b))
+  unfolding strictMoves
+  demanded = record {
+    members = λ r. (there-is r, back-is r);
+    order = subst Ascending (sym (places-back (λ i. strict (posOn b) (placed i)) 0 49152 (omega arith))) (strict-order (posOn b));
+  }
+    where
+      there-is : (r : ChessRetraction) → Among r (map placed (strictPlaces (posOn b))) → Past b r
+      there-is r z =
+          let q = among-passes (λ i. strict (posOn b) (placed i)) 0 49152 r z in
+          past-is b r .0 (demand3 (toLaws b) r lawful .0 (subst (λ (x : ChessRetraction). strict (posOn b) x ≡ true) (sym (q .1)) (q .2)))
+
+      back-is : (r : ChessRetraction) → Past b r → Among r (map placed (strictPlaces (posOn b)))
+      back-is r q =
+          let s : strict (posOn b) r ≡ true = demand3 (toLaws b) r lawful .1 (past-is b r .1 q) in
+          among-placed r (strictPlaces (posOn b)) (strict-in (posOn b) r s) (strict-member (posOn b) r (strict-in (posOn b) r s) .1 s)
+
+-- a strict place is a last move, and where there is none there is no last move
+module _ (b : RetractableBoard) (h : gateOf b ≡ Accepted) (j : ℕ) (x : Next (testOf (posOn b)) 0 j) where
+  whole : (l : List ChessRetraction) → rest (testOf (posOn b)) 0 ≡ l → IsStrictList b l
+  whole l e = subst (IsStrictList b) (all-rest (posOn b) ∙ e) (demanded b h)
+
+  gate-never : (why : Refusal) → gateOf b ≡ Refused why → ⊥
+  gate-never why r = never why (sym r ∙ h)
+
+  pub answers-some : j < 49152 → Answers b Exists
+  answers-some l = record {
+    refused = λ why r. absurd (gate-never why r);
+    exists = λ _. ((λ _. (placed j, past)), (λ _. refl));
+    none = λ _. ((λ e. absurd (apart e)), (λ f. absurd (f (placed j) past)));
+  }
+    where
+      past : Past b (placed j)
+      past = whole _ (one-more _ _ _ x l) .members (placed j) .0 first
+
+      apart : _≡_ {A = LastMove} Exists NoLastMove → ⊥
+      apart z = omega (arith, (let w : _≡_ {A = ℕ} 0 1 = cc in w))
+
+  pub answers-none : 49152 ≤ j → Answers b NoLastMove
+  answers-none f = record {
+    refused = λ why r. absurd (gate-never why r);
+    exists = λ _. ((λ e. absurd (apart e)), (λ q. absurd (no-past (q .0) (q .1))));
+    none = λ _. ((λ _. no-past), (λ _. refl));
+  }
+    where
+      end : j ≤ 49152 → 49152 ≤ j → j ≡ 49152
+      end m n = omega arith
+
+      no-past : (q : ChessRetraction) → Past b q → ⊥
+      no-past q z = elim (whole [] (at-end _ _ _ x (end (x .skips .most) f)) .members q .1 z) [ ]
+
+      apart : _≡_ {A = LastMove} NoLastMove Exists → ⊥
+      apart z = omega (arith, (let w : _≡_ {A = ℕ} 0 1 = cc in w))
+
+-- the answers by the gate's verdict
+module _ (b : RetractableBoard) where
+  pub listed-told : {r : Listed} {after : List ℕ} (s : List ℕ) → gateOf b ≡ Accepted → (r ≡ roomFor (strictMoves (posOn b)) s) × (after ≡ roomedIn (strictMoves (posOn b)) s) → Lists b s r after
+  listed-told s h e = record {
+    moves = strictMoves (posOn b);
+    exact = demanded b;
+    answer = e .0 ∙ sym (ap (λ (v : Verdict). listedBy v (strictMoves (posOn b)) s) h);
+    slots = e .1 ∙ sym (ap (λ (v : Verdict). slotsBy v (strictMoves (posOn b)) s) h);
+  }
+
+  pub counted-told : {n : ℕ} → gateOf b ≡ Accepted → n ≡ length (strictMoves (posOn b)) → Counts b (Count n)
+  counted-told h e = record {
+    moves = strictMoves (posOn b);
+    exact = demanded b;
+    answer = ap (λ (k : ℕ). Count k) e ∙ sym (ap (λ (v : Verdict). countedBy v (strictMoves (posOn b))) h);
+  }
+
+  module _ (why : Refusal) (h : gateOf b ≡ Refused why) where
+    nothing-asked : gateOf b ≡ Accepted → IsStrictList b []
+    nothing-asked a = absurd (never why (sym h ∙ a))
+
+    pub listed-refused : (s : List ℕ) → Lists b s (notListed why) s
+    listed-refused s = record {
+      moves = [];
+      exact = nothing-asked;
+      answer = sym (ap (λ (v : Verdict). listedBy v [] s) h);
+      slots = sym (ap (λ (v : Verdict). slotsBy v [] s) h);
+    }
+
+    pub counted-refused : Counts b (notCounted why)
+    counted-refused = record { moves = []; exact = nothing-asked; answer = sym (ap (λ (v : Verdict). countedBy v []) h) }
+
+    pub answers-refused : Answers b (notAnswered why)
+    answers-refused = record {
+      refused = λ w r. ap notAnswered (same (sym h ∙ r));
+      exists = λ a. absurd (never why (sym h ∙ a));
+      none = λ a. absurd (never why (sym h ∙ a));
+    }
+      where
+        same : {w : Refusal} → Refused why ≡ Refused w → why ≡ w
+        same e = cc

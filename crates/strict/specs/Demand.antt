@@ -1,0 +1,64 @@
+-- Demand 3, over board values.
+use mathlib.Core.Path.{_≡_}
+use mathlib.Core.Logic.{_↔_}
+use mathlib.Core.List.{List, _∷_, map}
+use Prim.Native.Nat.{ℕ}
+use lib.ListN.{length}
+use Rattle.laws.specs.declared.ChessRetraction.{ChessRetraction}
+use Rattle.laws.specs.Positions.{Pos}
+use Rattle.laws.specs.Strictness.{Gives}
+use Rattle.laws.specs.StrictLists.{place, placed, strictPlaces, Ascending}
+use Rattle.laws.specs.Boards.{Shaped}
+use Rattle.accept.specs.declared.Refusal.{Refusal}
+use Rattle.accept.specs.declared.Verdict.{Verdict}
+use Rattle.accept.specs.declared.Verdict.the-variants.{Accepted, Refused}
+use Rattle.board.specs.declared.RetractableBoard.{RetractableBoard}
+use Rattle.board.specs.Gate.{posOn, toLaws, gateOf}
+use Rattle.listing.specs.declared.Listed.{Listed}
+use Rattle.listing.specs.Listing.{listedBy, slotsBy}
+use Rattle.strict.specs.declared.Counted.{Counted}
+use Rattle.strict.specs.declared.Counted.the-variants.{Count, Refused as notCounted}
+use Rattle.strict.specs.declared.LastMove.{LastMove}
+use Rattle.strict.specs.declared.LastMove.the-variants.{Exists, NoLastMove, Refused as notAnswered}
+
+-- "some accepted earlier board with souls at most 8 a side has that move as a legal one, and the move gives today's men, turn, castling
+-- rights and, unless unknown, today's en passant state": e is a board that passes 1 to 7, k the kind promoted to
+abbrev pub Past : RetractableBoard → ChessRetraction → Type 0
+Past b r = (e : RetractableBoard) × (k : ℕ) × Shaped (toLaws e) × (gateOf e ≡ Accepted) × Gives (posOn e) (posOn b) r k
+
+-- r is in the list
+pub data Among (r : ChessRetraction) : List ChessRetraction → Type 0 where
+  first : {l : List ChessRetraction} → Among r (r ∷ l)
+  later : {q : ChessRetraction} {l : List ChessRetraction} → Among r l → Among r (q ∷ l)
+
+-- "it holds a retraction, once and in a stated order, exactly when" it has a past; "Order: source, target, uncaptured, un-promotion"
+pub record IsStrictList (b : RetractableBoard) (l : List ChessRetraction) : Type 0 where
+  pub members : (r : ChessRetraction) → Among r l ↔ Past b r
+  pub order : Ascending (map place l)
+
+-- "This list .. go to lent 16-bit slots, packed, with the length; slots beyond keep their numbers"; "strict list .. 13"
+pub record Lists (b : RetractableBoard) (s : List ℕ) (r : Listed) (after : List ℕ) : Type 0 where
+  pub moves : List ChessRetraction
+  pub exact : gateOf b ≡ Accepted → IsStrictList b moves
+  pub answer : r ≡ listedBy (gateOf b) moves s
+  pub slots : after ≡ slotsBy (gateOf b) moves s
+
+-- the length alone
+abbrev pub countedBy : Verdict → List ChessRetraction → Counted
+countedBy Accepted l = Count (length l)
+countedBy (Refused why) l = notCounted why
+
+pub record Counts (b : RetractableBoard) (r : Counted) : Type 0 where
+  pub moves : List ChessRetraction
+  pub exact : gateOf b ≡ Accepted → IsStrictList b moves
+  pub answer : r ≡ countedBy (gateOf b) moves
+
+-- ""No last move" is said exactly when no such board and move exist"
+pub record Answers (b : RetractableBoard) (r : LastMove) : Type 0 where
+  pub refused : (why : Refusal) → gateOf b ≡ Refused why → r ≡ notAnswered why
+  pub exists : gateOf b ≡ Accepted → (r ≡ Exists) ↔ ((q : ChessRetraction) × Past b q)
+  pub none : gateOf b ≡ Accepted → (r ≡ NoLastMove) ↔ ((q : ChessRetraction) → Past b q → ⊥)
+
+-- the Laws' strict list as retractions
+unfoldable pub strictMoves : Pos → List ChessRetraction
+strictMoves p = map placed (strictPlaces p)

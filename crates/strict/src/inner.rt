@@ -1,0 +1,124 @@
+// The strict places of an accepted position, in order. `t` is the table of squares between, lent.
+use board::RetractableBoard;
+use laws::ChessRetraction;
+use listing::Listed;
+use placing::Position;
+ghost use mathlib.Core.Path.{_≡_};
+ghost use Prim.Native.Nat.{_<_, _≤_};
+ghost use lib.ListN.{length};
+ghost use Rattle.geometry.specs.Lines.{IsBetween};
+ghost use Rattle.laws.specs.StrictLists.{placed};
+ghost use Rattle.accept.specs.declared.Verdict.the-variants.{Accepted};
+ghost use Rattle.placing.specs.Placed.{posAt};
+ghost use Rattle.board.specs.Gate.{gateOf};
+ghost use Rattle.board.specs.Moving.{placedOn};
+ghost use Rattle.strictness.specs.Strictly.{Today};
+ghost use Rattle.listing.specs.Listing.{fillFrom, roomFor, roomedIn};
+ghost use Rattle.strict.specs.Searching.{testOf, Looks, Next};
+ghost use Rattle.strict.specs.Demand.{strictMoves};
+
+// The position of a board that its gate let pass.
+pub fn today(b: RetractableBoard) -> Position
+    requires { ⌜ gateOf b ≡ Accepted ⌝ }
+    ensures { λ p. ⌜ (p ≡ placedOn b) × Today p ⌝ }
+{
+    board::inner::moving::placed(b)
+}
+
+// The retraction at a place: 64 sources, 64 targets, 6 uncaptured men, 2 marks.
+fn candidate(i: usize) -> ChessRetraction
+    requires { ⌜ i < 49152 ⌝ }
+    ensures { λ r. ⌜ r ≡ placed i ⌝ }
+{
+    ChessRetraction {
+        source: (i / 768) as u8,
+        target: (i / 12 % 64) as u8,
+        uncaptured: (i / 2 % 6) as u8,
+        unpromotion: i % 2 == 1,
+    }
+}
+
+// The place itself where it is strict, else the next one worth a look: a source or a target that cannot be rules out all its places.
+fn look(t: &[u64; 4096], p: Position, i: usize) -> usize
+    requires { ⌜ IsBetween (now t) × Today p × (i < 49152) ⌝ }
+    ensures { λ j. ⌜ Looks (testOf (posAt p)) i j ⌝ }
+{
+    let r = candidate(i);
+    if !unmake::inner::source_ok(p, r) {
+        return (i / 768 + 1) * 768;
+    }
+    if !unmake::inner::target_ok(p, r) {
+        return (i / 12 + 1) * 12;
+    }
+    if !strictness::inner::coming::can_come(t, p, r) {
+        return (i / 12 + 1) * 12;
+    }
+    if strictness::inner::is_strict(t, p, r) {
+        return i;
+    }
+    i + 1
+}
+
+// The first strict place from `start` on, or the end.
+pub fn next_from(t: &[u64; 4096], p: Position, start: usize) -> usize
+    requires { ⌜ IsBetween (now t) × Today p × (start ≤ 49152) ⌝ }
+    ensures { λ j. ⌜ Next (testOf (posAt p)) start j ⌝ }
+{
+    let mut i = start;
+    while i < 49152 {
+        let j = look(t, p, i);
+        if j == i {
+            return i;
+        }
+        i = j;
+    }
+    i
+}
+
+pub fn count(t: &[u64; 4096], p: Position) -> usize
+    requires { ⌜ IsBetween (now t) × Today p ⌝ }
+    ensures { λ n. ⌜ n ≡ length (strictMoves (posAt p)) ⌝ }
+{
+    let mut n: usize = 0;
+    let mut i: usize = 0;
+    while i < 49152 {
+        let j = next_from(t, p, i);
+        if j == 49152 {
+            return n;
+        }
+        n += 1;
+        i = j + 1;
+    }
+    n
+}
+
+// The strict retractions, packed, from the first slot on.
+fn fill(t: &[u64; 4096], p: Position, slots: &mut [u16])
+    requires { ⌜ (IsBetween (now t) × Today p) × (length (strictMoves (posAt p)) ≤ length (now slots)) ⌝ }
+    ensures { λ _. ⌜ now (slots .exit) ≡ fillFrom (now (slots .entry)) 0 (strictMoves (posAt p)) ⌝ }
+{
+    let mut n: usize = 0;
+    let mut i: usize = 0;
+    while i < 49152 {
+        let j = next_from(t, p, i);
+        if j == 49152 {
+            return;
+        }
+        slots[n] = laws::inner::pack(candidate(j));
+        n += 1;
+        i = j + 1;
+    }
+}
+
+// Nothing is written before the room is known.
+pub fn list(t: &[u64; 4096], p: Position, slots: &mut [u16]) -> Listed
+    requires { ⌜ IsBetween (now t) × Today p ⌝ }
+    ensures { λ r. ⌜ (r ≡ roomFor (strictMoves (posAt p)) (now (slots .entry))) × (now (slots .exit) ≡ roomedIn (strictMoves (posAt p)) (now (slots .entry))) ⌝ }
+{
+    let n = count(t, p);
+    if n > slots.len() {
+        return Listed::Room(n);
+    }
+    fill(t, p, slots);
+    Listed::Count(n)
+}

@@ -1,0 +1,69 @@
+// The strict list of a board: demand 3.
+use accept::Refusal;
+use accept::Verdict;
+use board::RetractableBoard;
+use listing::Listed;
+ghost use Rattle.strict.specs.Demand.{Lists, Counts, Answers};
+
+pub mod inner; // inner.rt: the strict places of a position in order, counted and written
+
+// How many strict retractions there are, or why the board is refused.
+pub enum Counted {
+    Count(usize),
+    Refused(Refusal),
+}
+
+pub enum LastMove {
+    Exists,
+    NoLastMove,
+    Refused(Refusal),
+}
+
+// The strict retractions of a board into slots, packed, by source, target, uncaptured man and mark: refusals 1 to 7, then 13.
+pub fn strict_into(b: RetractableBoard, slots: &mut [u16]) -> Listed
+    ensures { λ r. ⌜ Lists b (now (slots .entry)) r (now (slots .exit)) ⌝ }
+{
+    let t = tables::between_table();
+    let v = board::inner::gate(&t, b);
+    match v {
+        Verdict::Refused(why) => Listed::Refused(why),
+        Verdict::Accepted => {
+            let p = inner::today(b);
+            inner::list(&t, p, slots)
+        }
+    }
+}
+
+// How many strict retractions a board has.
+pub fn strict_count(b: RetractableBoard) -> Counted
+    ensures { λ r. ⌜ Counts b r ⌝ }
+{
+    let t = tables::between_table();
+    let v = board::inner::gate(&t, b);
+    match v {
+        Verdict::Refused(why) => Counted::Refused(why),
+        Verdict::Accepted => {
+            let p = inner::today(b);
+            Counted::Count(inner::count(&t, p))
+        }
+    }
+}
+
+// Whether a board has a last move at all. The search ends at the first strict retraction.
+pub fn last_move(b: RetractableBoard) -> LastMove
+    ensures { λ r. ⌜ Answers b r ⌝ }
+{
+    let t = tables::between_table();
+    let v = board::inner::gate(&t, b);
+    match v {
+        Verdict::Refused(why) => LastMove::Refused(why),
+        Verdict::Accepted => {
+            let p = inner::today(b);
+            let first = inner::next_from(&t, p, 0);
+            if first < 49152 {
+                return LastMove::Exists;
+            }
+            LastMove::NoLastMove
+        }
+    }
+}
