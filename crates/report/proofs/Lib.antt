@@ -1,0 +1,5 @@
+pub mod Adding
+pub mod Decimals
+pub mod Rows
+pub mod Whole
+pub mod Example
