@@ -9,14 +9,16 @@ PORTED = BUILT + '/rust/target/release/ported'
 
 def build_oracle():
     """Builds the oracle unless what is built is newer than its sources; False where it can't be built."""
-    if os.path.exists(BRUTE) and os.path.getmtime(BRUTE) > newest(ROOT + '/oracle'):
+    if os.path.exists(BRUTE) and os.path.getmtime(BRUTE) > newest_source():
         return True
     print('building the oracle', file=sys.stderr)
     return subprocess.run([ROOT + '/oracle/build'], stdout=subprocess.DEVNULL).returncode == 0
 
 
-def newest(folder):
-    return max(os.path.getmtime(os.path.join(d, f)) for d, _, files in os.walk(folder) for f in files if not f.endswith('.pyc'))
+def newest_source():
+    parts = [ROOT + '/oracle/' + p for p in ('brute', 'rust', 'gen', 'lastmoves')]
+    files = [os.path.join(d, f) for p in parts for d, _, names in os.walk(p) for f in names]
+    return max(map(os.path.getmtime, files + parts))
 
 
 def programs(built):
