@@ -26,4 +26,8 @@ def programs(built):
     names = [n for n in ('lastmoves', 'ask') if n.upper() not in os.environ]
     if names and not built and subprocess.run(['rt', 'check'] + names, cwd=ROOT, stdout=sys.stderr).returncode:
         sys.exit('rt check %s failed' % ' '.join(names))
-    return [os.environ.get(n.upper(), ROOT + '/target/bin/' + n) for n in ('lastmoves', 'ask')]
+    paths = [os.environ.get(n.upper(), ROOT + '/target/bin/' + n) for n in ('lastmoves', 'ask')]
+    missing = [p for p in paths if not os.path.exists(p)]
+    if missing:
+        sys.exit('no program ' + ' '.join(missing))
+    return paths
