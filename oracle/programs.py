@@ -1,0 +1,33 @@
+"""Where the programs are that `oracle/compare` and `bench/run` run, and how they are built."""
+import os, subprocess, sys
+
+ROOT = os.path.dirname(os.path.dirname(os.path.abspath(__file__)))
+BUILT = ROOT + '/target/oracle'
+BRUTE = BUILT + '/brute/brute'
+PORTED = BUILT + '/rust/target/release/ported'
+
+
+def build_oracle():
+    """Builds the oracle unless what is built is newer than its sources; False where it can't be built."""
+    if os.path.exists(BRUTE) and os.path.getmtime(BRUTE) > newest_source():
+        return True
+    print('building the oracle', file=sys.stderr)
+    return subprocess.run([ROOT + '/oracle/build'], stdout=subprocess.DEVNULL).returncode == 0
+
+
+def newest_source():
+    parts = [ROOT + '/oracle/' + p for p in ('brute', 'rust', 'gen', 'lastmoves')]
+    files = [os.path.join(d, f) for p in parts for d, _, names in os.walk(p) for f in names]
+    return max(map(os.path.getmtime, files + parts))
+
+
+def programs(built):
+    """The paths of `lastmoves` and `ask`: LASTMOVES and ASK of the environment, else those of target/bin, proved first unless `built`."""
+    names = [n for n in ('lastmoves', 'ask') if n.upper() not in os.environ]
+    if names and not built and subprocess.run(['rt', 'check'] + names, cwd=ROOT, stdout=sys.stderr).returncode:
+        sys.exit('rt check %s failed' % ' '.join(names))
+    paths = [os.environ.get(n.upper(), ROOT + '/target/bin/' + n) for n in ('lastmoves', 'ask')]
+    missing = [p for p in paths if not os.path.exists(p)]
+    if missing:
+        sys.exit('no program ' + ' '.join(missing))
+    return paths
