@@ -1,11 +1,12 @@
--- `reading::put_refused` meets its contract.
+-- `answer::put_refused` meets its contract.
+use native.Mathlib.Omega.{arith}
 use mathlib.Core.Path.{_≡_}
 use lib.ListN.{length}
-use borrow.Author.Needs.{needs}
 use denote.Ref.{now}
-use Rattle.reading.proofs.Spoken.{refused-shown}
-use Rattle.reading.proofs.put_refused.Statement.{statement}
-use Rattle.reading.proofs.put_refused.Tie as tie
+use Rattle.answer.proofs.Spoken.{refused-shown}
+use borrow.Author.Needs.{needs}
+use Rattle.answer.proofs.put_refused.Statement.{statement}
+use Rattle.answer.proofs.put_refused.Tie as tie
 
 slice-aggregate-put-bytes : tie.Need-slice-aggregate-put-bytes
 slice-aggregate-put-bytes c = search needs
@@ -29,7 +30,7 @@ put-bytes-requires-2 : tie.Need-put-bytes-requires-2
 put-bytes-requires-2 c κs = search needs
 
 returns : tie.Need-returns
-returns c = refused-shown (c .before .before .before .before .before .before .before .before .before .args .r) (now (c .before .before .before .before .before .before .before .before .before .args .out)) _ _ _ _ _ _ _ (let e : length (now (c .before .before .before .before .before .before .before .before .before .args .out)) ≡ 128 = search needs in e) (c .before .before .before .before .before .before .put-bytes .ensures) (c .before .before .before .before .before .number .ensures) (c .before .before .before .put-decimal .ensures) (c .put-bytes2 .ensures)
+returns c = refused-shown (c .before .before .before .before .before .before .before .before .before .args .r) (now (c .before .before .before .before .before .before .before .before .before .args .out)) _ _ _ _ _ _ _ (let e : length (now (c .before .before .before .before .before .before .before .before .before .args .out)) ≡ 196608 = search needs in e) (omega (arith, c .before .before .before .before .before .number .ok)) (c .before .before .before .before .before .before .put-bytes .ensures) (c .before .before .before .before .before .number .ensures) (c .before .before .before .put-decimal .ensures) (c .put-bytes2 .ensures)
 
 pub put-refused-spec : {M : Type 1} → statement M
 put-refused-spec =

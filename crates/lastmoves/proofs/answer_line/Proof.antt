@@ -1,18 +1,15 @@
--- `reading::show` meets its contract.
+-- `lastmoves::answer_line` meets its contract.
 use mathlib.Core.Path.{sym}
 use lib.Seq.{length-take-le}
 use borrow.Author.Needs.{needs}
-use Rattle.reading.proofs.show.Statement.{statement}
-use Rattle.reading.proofs.show.Tie as tie
+use Rattle.lastmoves.proofs.answer_line.Statement.{statement}
+use Rattle.lastmoves.proofs.answer_line.Tie as tie
 
 slice-aggregate-reply : tie.Need-slice-aggregate-reply
 slice-aggregate-reply c = sym (length-take-le _ _ (c .before .before .pre))
 
 reply-requires : tie.Need-reply-requires
 reply-requires c κs = search needs
-
-array-share-prefix-out : tie.Need-array-share-prefix-out
-array-share-prefix-out c = search needs
 
 slice-aggregate-write-all : tie.Need-slice-aggregate-write-all
 slice-aggregate-write-all c = search needs
@@ -23,13 +20,12 @@ write-all-requires c κs = search needs
 returns : tie.Need-returns
 returns c = search needs
 
-pub show-spec : {M : Type 1} → statement M
-show-spec =
+pub answer-line-spec : {M : Type 1} → statement M
+answer-line-spec =
     tie.close
     (tie.spec
     slice-aggregate-reply
     reply-requires
-    array-share-prefix-out
     slice-aggregate-write-all
     write-all-requires
     returns)

@@ -1,0 +1,57 @@
+-- `answer::inner::put_lists` meets its contract.
+use mathlib.Core.Path.{_≡_}
+use lib.ListN.{length}
+use denote.Ref.{now}
+use Rattle.answer.proofs.Spoken.{lists-shown, never-room, never-refused}
+use borrow.Author.Needs.{needs}
+use Rattle.answer.proofs.inner.put_lists.Statement.{statement}
+use Rattle.answer.proofs.inner.put_lists.Tie as tie
+
+print-requires : tie.Need-print-requires
+print-requires c κs = search needs
+
+enum-known-p : tie.Need-enum-known-p
+enum-known-p c = search needs
+
+slice-aggregate-put-bytes : tie.Need-slice-aggregate-put-bytes
+slice-aggregate-put-bytes c = search needs
+
+put-bytes-requires : tie.Need-put-bytes-requires
+put-bytes-requires c κs = search needs
+
+report-requires : tie.Need-report-requires
+report-requires c κs = search needs
+
+enum-told : tie.Need-enum-told
+enum-told c = search needs
+
+enum-known-p-2 : tie.Need-enum-known-p-2
+enum-known-p-2 c = search needs
+
+put-refused-requires : tie.Need-put-refused-requires
+put-refused-requires c κs = search needs
+
+returns : tie.Need-returns
+returns c = lists-shown (c .before .before .before .before .before .before .before .before .before .before .before .before .args .b) (now (c .before .before .before .before .before .before .before .before .before .before .before .before .args .out)) _ _ (c .before .before .before .before .before .before .before .before .before .before .before .before .pre .0) (let e : length (now (c .before .before .before .before .before .before .before .before .before .before .before .before .args .out)) ≡ 196608 = search needs in e) (c .before .before .before .before .before .before .before .before .print .ensures .0) (c .before .before .before .before .before .before .before .before .print .ensures .1) _ _ (c .before .before .before .before .before .before .before .before .before .before .before .before .pre .1) (c .before .before .before .before .before .before .before .before .before .before .before .before .pre .2) _ _ _ _ _ (c .before .before .before .before .before .before .p .given .1) (c .before .before .put-bytes .ensures) (c .report .ensures)
+
+returns-2 : tie.Need-returns-2
+returns-2 c = absurd (never-room (c .before .before .before .before .before .before .args .b) (now (c .before .before .before .before .before .before .args .out)) _ _ (c .before .before .before .before .before .before .pre .0) (let e : length (now (c .before .before .before .before .before .before .args .out)) ≡ 196608 = search needs in e) (c .before .before .print .ensures .0) (c .before .before .print .ensures .1) _ (c .enum-told .given .1))
+
+returns-3 : tie.Need-returns-3
+returns-3 c = absurd (never-refused (c .before .before .before .before .before .before .before .before .before .args .b) (now (c .before .before .before .before .before .before .before .before .before .args .out)) _ _ (c .before .before .before .before .before .before .before .before .before .pre .0) (let e : length (now (c .before .before .before .before .before .before .before .before .before .args .out)) ≡ 196608 = search needs in e) (c .before .before .before .before .before .print .ensures .0) (c .before .before .before .before .before .print .ensures .1) _ (c .before .before .before .p2 .given .1))
+
+pub put-lists-spec : {M : Type 1} → statement M
+put-lists-spec =
+    tie.close
+    (tie.spec
+    print-requires
+    enum-known-p
+    slice-aggregate-put-bytes
+    put-bytes-requires
+    report-requires
+    enum-told
+    enum-known-p-2
+    put-refused-requires
+    returns
+    returns-2
+    returns-3)

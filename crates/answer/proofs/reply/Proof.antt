@@ -1,0 +1,42 @@
+-- `answer::reply` meets its contract.
+use mathlib.Core.Path.{_≡_}
+use lib.ListN.{length}
+use denote.Ref.{now}
+use Rattle.text.proofs.RoundTrip.{read-accepted}
+use Rattle.answer.proofs.Spoken.{reply-refused, reply-accepted}
+use borrow.Author.Needs.{needs}
+use Rattle.answer.proofs.reply.Statement.{statement}
+use Rattle.answer.proofs.reply.Tie as tie
+
+read-requires : tie.Need-read-requires
+read-requires c κs = search needs
+
+enum-known-v : tie.Need-enum-known-v
+enum-known-v c = search needs
+
+put-refused-requires : tie.Need-put-refused-requires
+put-refused-requires c κs = search needs
+
+enum-told : tie.Need-enum-told
+enum-told c = search needs
+
+put-board-requires : tie.Need-put-board-requires
+put-board-requires c κs = (read-accepted _ _ (c .before .before .before .before .before .before .read .ensures) (c .before .before .before .before .enum-told .given .1) .0, (let e : length (now (c .before .before .before .before .before .before .before .before .args .listed)) ≡ 8192 = search needs in e), (let e : length (now (c .before .before .before .before .before .before .before .before .args .strict)) ≡ 8192 = search needs in e))
+
+returns : tie.Need-returns
+returns c = reply-refused _ _ _ _ (c .before .before .before .before .before .read .ensures) _ (c .before .before .before .v .given .1) (c .put-refused .ensures)
+
+returns-2 : tie.Need-returns-2
+returns-2 c = reply-accepted _ _ _ _ (c .before .before .before .before .before .before .before .read .ensures) (c .before .before .before .before .before .enum-told .given .1) (c .put-board .ensures)
+
+pub reply-spec : {M : Type 1} → statement M
+reply-spec =
+    tie.close
+    (tie.spec
+    read-requires
+    enum-known-v
+    put-refused-requires
+    enum-told
+    put-board-requires
+    returns
+    returns-2)

@@ -1,0 +1,63 @@
+// The answer of a board that its gate let pass: the ported list, then the strict one, then both in writing.
+use accept::Refusal;
+use board::RetractableBoard;
+use listing::Listed;
+use text::Printed;
+ghost use mathlib.Core.Path.{_≡_};
+ghost use mathlib.Core.List.{_++_};
+ghost use Prim.Native.Nat.{_≤_};
+ghost use lib.ListN.{length};
+ghost use Rattle.accept.specs.declared.Verdict.the-variants.{Accepted};
+ghost use Rattle.board.specs.Gate.{gateOf};
+ghost use Rattle.text.specs.Entries.{textOn};
+ghost use Rattle.report.specs.Report.{reportOf};
+ghost use Rattle.answer.specs.Replies.{newline, Shows, ShowsStrict, ShowsBoard};
+
+fn put_lists(b: RetractableBoard, listed: &[u16], strict: &[u16], out: &mut [u8; 196608]) -> usize
+    requires { ⌜ (gateOf b ≡ Accepted) × (length (now listed) ≤ 8192) × (length (now strict) ≤ 8192) ⌝ }
+    ensures { λ n. ⌜ Shows (textOn b ++ newline ++ reportOf (now (listed .entry)) (now (strict .entry))) n (now (out .exit)) ⌝ }
+{
+    let p = text::print(b, out);
+    match p {
+        Printed::Count(n) => {
+            let end = feed::put_bytes(out, n, b"\n");
+            report::report(out, end, listed, strict)
+        }
+        Printed::Room(_) => 0,
+        Printed::Refused(why) => super::put_refused(why, out),
+    }
+}
+
+fn put_strict(
+    b: RetractableBoard,
+    listed: &[u16],
+    strict: &mut [u16],
+    out: &mut [u8; 196608],
+) -> usize
+    requires { ⌜ (gateOf b ≡ Accepted) × (length (now listed) ≤ 8192) × (length (now strict) ≡ 8192) ⌝ }
+    ensures { λ n. ⌜ ShowsStrict b (now (listed .entry)) n (now (out .exit)) ⌝ }
+{
+    let s = strict::strict_into(b, strict);
+    match s {
+        Listed::Count(n) => put_lists(b, listed, &strict[..n], out),
+        Listed::Room(_) => super::put_refused(Refusal::Room, out),
+        Listed::Refused(why) => super::put_refused(why, out),
+    }
+}
+
+pub fn put_board(
+    b: RetractableBoard,
+    listed: &mut [u16],
+    strict: &mut [u16],
+    out: &mut [u8; 196608],
+) -> usize
+    requires { ⌜ (gateOf b ≡ Accepted) × (length (now listed) ≡ 8192) × (length (now strict) ≡ 8192) ⌝ }
+    ensures { λ n. ⌜ ShowsBoard b n (now (out .exit)) ⌝ }
+{
+    let l = listing::retractions_into(b, listed);
+    match l {
+        Listed::Count(n) => put_strict(b, &listed[..n], strict, out),
+        Listed::Room(_) => super::put_refused(Refusal::Room, out),
+        Listed::Refused(why) => super::put_refused(why, out),
+    }
+}

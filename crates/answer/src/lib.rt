@@ -1,0 +1,39 @@
+// The answer to a line of input: its text and the two lists of its board, or its refusal.
+use accept::Refusal;
+use accept::Verdict;
+use board::RetractableBoard;
+use listing::Listed;
+use text::Printed;
+ghost use Rattle.answer.specs.Replies.{refusedText, Shows, Replies};
+
+pub mod inner; // inner.rt: the answer of a board that its gate let pass
+
+// `refused N`, and nothing else.
+pub fn put_refused(r: Refusal, out: &mut [u8; 196608]) -> usize
+    ensures { λ n. ⌜ Shows (refusedText r) n (now (out .exit)) ⌝ }
+{
+    let a = feed::put_bytes(out, 0, b"refused ");
+    let number = accept::number(r) as u64;
+    let d = feed::put_decimal(out, a, number);
+    feed::put_bytes(out, d, b"\n")
+}
+
+// The first bytes of `out` are the answer to a line; answers how many. What the slots held before does not matter.
+pub fn reply(
+    line: &[u8],
+    listed: &mut [u16; 8192],
+    strict: &mut [u16; 8192],
+    out: &mut [u8; 196608],
+) -> usize
+    ensures { λ n. ⌜ Replies (now (line .entry)) n (now (out .exit)) ⌝ }
+{
+    let b = text::read(line);
+    let v = b.verdict;
+    match v {
+        Verdict::Refused(why) => put_refused(why, out),
+        Verdict::Accepted => {
+            let board = b.board;
+            inner::put_board(board, listed, strict, out)
+        }
+    }
+}
