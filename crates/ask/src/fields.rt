@@ -9,6 +9,18 @@ pub fn byte(line: &[u8], at: usize) -> u8 {
     if at < line.len() { line[at] } else { b'\n' }
 }
 
+// The line begins with a word.
+pub fn starts(line: &[u8], word: &[u8]) -> bool {
+    let mut i = 0;
+    while i < word.len() {
+        if byte(line, i) != word[i] {
+            return false;
+        }
+        i += 1;
+    }
+    true
+}
+
 // The place behind the next `sep`, or the line's end.
 pub fn after(line: &[u8], at: usize, sep: u8) -> usize {
     let mut i = at;

@@ -8,6 +8,7 @@ use board::RetractableBoard;
 use limited::Limited;
 use listing::Listed;
 use retraction_gen::RetractionGen;
+use strict::Counted;
 use text::Copied;
 use text::Raw;
 ghost use Prim.Native.Nat.{_≤_};
@@ -24,25 +25,26 @@ pub fn reply(line: &[u8], out: &mut [u8; 2048]) -> usize
 
 // A line without a known verb has an empty answer.
 fn by_verb(line: &[u8], out: &mut [u8; 2048]) -> usize {
-    let a = fields::byte(line, 0);
-    let b = fields::byte(line, 1);
-    if a == b'u' {
+    if fields::starts(line, b"unmake\t") {
         return unmake(line, out);
     }
-    if b == b'e' {
+    if fields::starts(line, b"replay\t") {
         return replay(line, out);
     }
-    if b == b'a' {
+    if fields::starts(line, b"raw\t") {
         return raw(line, out);
     }
-    if b == b'i' {
+    if fields::starts(line, b"limited\t") {
         return limited(line, out);
     }
-    if b == b'n' {
+    if fields::starts(line, b"entries\t") {
         return entries(line, out);
     }
-    if b == b'o' {
+    if fields::starts(line, b"count\t") {
         return count(line, out);
+    }
+    if fields::starts(line, b"strict\t") {
+        return strict(line, out);
     }
     0
 }
@@ -154,6 +156,26 @@ fn put_count(l: Listed, out: &mut [u8; 2048]) -> usize {
         Listed::Count(n) => feed::put_decimal(out, 0, n as u64),
         Listed::Room(n) => feed::put_decimal(out, 0, n as u64),
         Listed::Refused(r) => put_refused(r, out),
+    }
+}
+
+// How many strict retractions there are.
+fn strict(line: &[u8], out: &mut [u8; 2048]) -> usize {
+    let today = read(line, fields::after(line, 0, b'\t'));
+    let v = today.verdict;
+    match v {
+        Verdict::Refused(w) => put_refused(w, out),
+        Verdict::Accepted => {
+            let b = today.board;
+            put_strict(strict::strict_count(b), out)
+        }
+    }
+}
+
+fn put_strict(c: Counted, out: &mut [u8; 2048]) -> usize {
+    match c {
+        Counted::Count(n) => feed::put_decimal(out, 0, n as u64),
+        Counted::Refused(r) => put_refused(r, out),
     }
 }
 
