@@ -39,7 +39,7 @@ use Rattle.strict.proofs.Unique.{among-cases}
 use Rattle.strict.proofs.Remaining.{rest, all-rest, at-end, one-more}
 
 -- the Laws' record of a board is accepted exactly when the gate lets the board pass
-gate-by : (b : RetractableBoard) → acceptedBoard (toLaws b) ≡ true → gateOf b ≡ Accepted
+pub gate-by : (b : RetractableBoard) → acceptedBoard (toLaws b) ≡ true → gateOf b ≡ Accepted
 unfolding gateBy judgedOf fiveOf thirdOf freshBy
 gate-by b h =
     let a = accepts (posOn b) (right _ _ (left _ _ h)) in rw (left _ _ (left _ _ h), a .kings, a .pawns, a .rights, a .state, a .calm, right _ _ h)
@@ -115,6 +115,10 @@ module _ (b : RetractableBoard) (h : gateOf b ≡ Accepted) where
   lawful : accepted (posOn b) ≡ true
   lawful = gate-passed b h .lawful
 
+  -- a retraction is strict by the Laws' test exactly when it has a past
+  pub strict-past : (r : ChessRetraction) → (strict (posOn b) r ≡ true) ↔ Past b r
+  strict-past r = ((λ z. past-is b r .0 (demand3 (toLaws b) r lawful .0 z)), (λ q. demand3 (toLaws b) r lawful .1 (past-is b r .1 q)))
+
   pub demanded : IsStrictList b (strictMoves (posOn b))
   unfolding strictMoves
   demanded = record {
@@ -125,11 +129,11 @@ module _ (b : RetractableBoard) (h : gateOf b ≡ Accepted) where
       there-is : (r : ChessRetraction) → Among r (map placed (strictPlaces (posOn b))) → Past b r
       there-is r z =
           let q = among-passes (λ i. strict (posOn b) (placed i)) 0 49152 r z in
-          past-is b r .0 (demand3 (toLaws b) r lawful .0 (subst (λ (x : ChessRetraction). strict (posOn b) x ≡ true) (sym (q .1)) (q .2)))
+          strict-past r .0 (subst (λ (x : ChessRetraction). strict (posOn b) x ≡ true) (sym (q .1)) (q .2))
 
       back-is : (r : ChessRetraction) → Past b r → Among r (map placed (strictPlaces (posOn b)))
       back-is r q =
-          let s : strict (posOn b) r ≡ true = demand3 (toLaws b) r lawful .1 (past-is b r .1 q) in
+          let s : strict (posOn b) r ≡ true = strict-past r .1 q in
           among-placed r (strictPlaces (posOn b)) (strict-in (posOn b) r s) (strict-member (posOn b) r (strict-in (posOn b) r s) .1 s)
 
 -- a strict place is a last move, and where there is none there is no last move
