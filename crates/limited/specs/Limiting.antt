@@ -40,11 +40,12 @@ byNext End = Yes
 abbrev pub listLimited : List SourceAndTargets → List ℕ → Limited
 listLimited es ms = cond (ltb 47 (length es)) (Refused Full) (byNext (nextOf (startOf (holding es) ms) .next))
 
--- the list and the iterator of a board whose turn is c, whose state is st and whose other fields are b's (288 to 307, 313 to 332)
+-- the list of a board whose turn is c, whose state is st and whose other fields are b's (288 to 304, 313 to 329)
+abbrev pub officersOn : RetractableBoard → Color → EnPassantFlag → List SourceAndTargets
+officersOn b c st = officerListOf (b .pieces) (b .colors) (b .combined) c (b .white) (b .black) (b .pinned) (b .checkers) st
+
 unfoldable pub sideOf : RetractableBoard → Color → EnPassantFlag → Limited
-sideOf b c st =
-    listLimited (officerListOf (b .pieces) (b .colors) (b .combined) c (b .white) (b .black) (b .pinned) (b .checkers) st)
-    (masksOf (b .pieces) (b .colors) c)
+sideOf b c st = listLimited (officersOn b c st) (masksOf (b .pieces) (b .colors) c)
 
 abbrev pub orElse : Limited → Limited → Limited
 orElse Yes later = Yes

@@ -1,6 +1,6 @@
 -- `limited::side` meets its contract.
 use borrow.Author.Needs.{needs}
-use Rattle.limited.specs.Limiting.{sideOf}
+use Rattle.limited.specs.Limiting.{officersOn, sideOf}
 use Rattle.limited.proofs.Fitting.{side-full, side-held}
 use Rattle.limited.proofs.side.Statement.{statement}
 use Rattle.limited.proofs.side.Tie as tie
@@ -10,7 +10,7 @@ officer-list-requires c κs = search needs
 
 returns : tie.Need-returns
 unfolding sideOf
-returns c = side-full _ _ _ (c .before .officer-list .ensures) (c .if1 .taken)
+returns c = let a = c .before .before .before .before .args in side-full (officersOn (a .b) (a .turn) (a .passant)) _ _ (c .before .officer-list .ensures) (c .if1 .taken)
 
 candidates-requires : tie.Need-candidates-requires
 candidates-requires c κs = search needs
