@@ -1,4 +1,4 @@
--- Checkers and pins of an un-made board as `make_retraction_new` (board.rs, 390 to 420) finds them: knights and pawns only where
+-- Checkers and pins of an un-made board as `make_retraction_new` (board.rs, 390 to 423) finds them: knights and pawns only where
 -- the king moved or one of them reappeared, since the retractor's king was not attacked before; sliders always.
 use mathlib.Core.Bool.{Bool, true, false, not, cond}
 use Prim.Native.Nat.{ℕ, zero, suc}
