@@ -5,7 +5,7 @@ use laws::Color;
 use laws::EnPassantFlag;
 
 // The byte at a place, or a newline, which no line has.
-pub fn byte(line: &[u8], at: usize) -> u8 {
+pub(super) fn byte(line: &[u8], at: usize) -> u8 {
     if at < line.len() { line[at] } else { b'\n' }
 }
 
@@ -22,7 +22,7 @@ pub fn starts(line: &[u8], word: &[u8]) -> bool {
 }
 
 // The place behind the next `sep`, or the line's end.
-pub fn after(line: &[u8], at: usize, sep: u8) -> usize {
+pub(super) fn after(line: &[u8], at: usize, sep: u8) -> usize {
     let mut i = at;
     while i < line.len() {
         if line[i] == sep {
@@ -42,7 +42,7 @@ fn hex_digit(b: u8) -> u64 {
 }
 
 // A hexadecimal number, up to the first byte that is no digit.
-pub fn hex(line: &[u8], at: usize) -> u64 {
+pub(super) fn hex(line: &[u8], at: usize) -> u64 {
     let mut x = 0u64;
     let mut i = at;
     while i < line.len() {
@@ -64,7 +64,7 @@ fn digit(b: u8) -> u64 {
 }
 
 // A decimal number, up to the first byte that is no digit; 255 for one above it.
-pub fn decimal(line: &[u8], at: usize) -> u8 {
+pub(super) fn decimal(line: &[u8], at: usize) -> u8 {
     let mut x = 0u64;
     let mut i = at;
     while i < line.len() {
@@ -94,7 +94,7 @@ fn least(x: u64) -> u8 {
 }
 
 // `w` or `b`.
-pub fn turn(b: u8) -> Color {
+pub(super) fn turn(b: u8) -> Color {
     if b == b'w' {
         Color::White
     } else {
@@ -119,12 +119,12 @@ fn marked(line: &[u8], at: usize, letter: u8) -> bool {
 }
 
 // The rights of a colour, by its letters.
-pub fn rights(line: &[u8], at: usize, short: u8, long: u8) -> CastleRights {
+pub(super) fn rights(line: &[u8], at: usize, short: u8, long: u8) -> CastleRights {
     placing::inner::rights_for(marked(line, at, short), marked(line, at, long))
 }
 
 // `-`, `?` or the number of a square.
-pub fn state(line: &[u8], at: usize) -> EnPassantFlag {
+pub(super) fn state(line: &[u8], at: usize) -> EnPassantFlag {
     let b = byte(line, at);
     match b {
         b'-' => EnPassantFlag::None,
@@ -134,7 +134,7 @@ pub fn state(line: &[u8], at: usize) -> EnPassantFlag {
 }
 
 // `source,target,uncaptured,mark` in numbers.
-pub fn retraction(line: &[u8], at: usize) -> ChessRetraction {
+pub(super) fn retraction(line: &[u8], at: usize) -> ChessRetraction {
     let to = after(line, at, b',');
     let taken = after(line, to, b',');
     let mark = after(line, taken, b',');

@@ -6,7 +6,7 @@ use retraction_gen::RetractionGen;
 use roll::SourceAndTargets;
 use roll::UnCaptureKind;
 
-pub fn put_made(m: Made, out: &mut [u8; 2048]) -> usize {
+pub(super) fn put_made(m: Made, out: &mut [u8; 2048]) -> usize {
     let v = m.verdict;
     match v {
         Verdict::Refused(r) => verbs::put_refused(r, out),

@@ -15,7 +15,7 @@ ghost use Prim.Native.Nat.{_≤_};
 ghost use lib.ListN.{length};
 
 // The answer and a newline go into `out`; answers how many bytes there are.
-pub fn reply(line: &[u8], out: &mut [u8; 2048]) -> usize
+pub(super) fn reply(line: &[u8], out: &mut [u8; 2048]) -> usize
     ensures { λ n. ⌜ n ≤ length (now (out .exit)) ⌝ }
 {
     let n = by_verb(line, out);
@@ -239,7 +239,7 @@ fn earlier(raw: Raw) -> Boarded {
     }
 }
 
-pub fn put_refused(r: Refusal, out: &mut [u8; 2048]) -> usize {
+pub(super) fn put_refused(r: Refusal, out: &mut [u8; 2048]) -> usize {
     let a = feed::put_bytes(out, 0, b"refused ");
     feed::put_decimal(out, a, accept::number(r) as u64)
 }

@@ -1,5 +1,6 @@
 -- The gate: refusals 1 to 7 of a board.
-use mathlib.Core.Bool.{Bool}
+use mathlib.Core.Path.{_≡_}
+use mathlib.Core.Bool.{Bool, true}
 use mathlib.Core.List.{List, [], _∷_}
 use Prim.Native.Nat.{ℕ}
 use lib.Dec.{eqb}
@@ -13,7 +14,8 @@ use Rattle.laws.specs.declared.EnPassantFlag.the-variants.{Any}
 use Rattle.laws.specs.Men.{Men}
 use Rattle.laws.specs.Attacks.{unionOf, checkersOf, pinsOf}
 use Rattle.laws.specs.Positions.{rightsOf, Pos}
-use Rattle.laws.specs.Boards.{menAt, Board}
+use Rattle.laws.specs.Acceptance.{kingsOk}
+use Rattle.laws.specs.Boards.{menAt, Clean, Board}
 use Rattle.accept.specs.declared.Refusal.the-variants.{Stale}
 use Rattle.accept.specs.declared.Verdict.{Verdict}
 use Rattle.accept.specs.declared.Verdict.the-variants.{Accepted, Refused}
@@ -46,9 +48,17 @@ toLaws b = record {
 unfoldable pub freshBy : Men → Color → (combined checkers pinned : ℕ) → Bool
 freshBy m c combined checkers pinned = eqb combined (unionOf m) and eqb checkers (checkersOf m c) and eqb pinned (pinsOf m c)
 
+-- what v refuses, or 7
+abbrev pub staleAfter : Verdict → Men → Color → (combined checkers pinned : ℕ) → Verdict
+staleAfter v m c combined checkers pinned = andThen v (unless (freshBy m c combined checkers pinned) Stale Accepted)
+
+-- men that a verdict accepts are clean and have their kings: what is worked out of them rests on it
+abbrev pub Kept : Verdict → List ℕ → List ℕ → Type 0
+Kept v pieces colors = v ≡ Accepted → Clean pieces colors × (kingsOk (menAt pieces colors) ≡ true)
+
 unfoldable pub gateBy : List ℕ → List ℕ → Color → CastleRights → CastleRights → EnPassantFlag → (combined checkers pinned : ℕ) → Verdict
 gateBy pieces colors c w b st combined checkers pinned =
-    andThen (judgedOf pieces colors c (rightsOf w b) st) (unless (freshBy (menAt pieces colors) c combined checkers pinned) Stale Accepted)
+    staleAfter (judgedOf pieces colors c (rightsOf w b) st) (menAt pieces colors) c combined checkers pinned
 
 -- "A board passing 1 to 7 is accepted": the first of 1 to 7 that is given
 abbrev pub gateOf : RetractableBoard → Verdict

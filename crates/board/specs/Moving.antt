@@ -1,6 +1,4 @@
 -- Un-make and replay of a board.
-use mathlib.Core.Path.{_≡_}
-use mathlib.Core.Bool.{true}
 use mathlib.Core.List.{List}
 use Prim.Native.Nat.{ℕ}
 use Rattle.geometry.specs.declared.Color.{Color}
@@ -8,19 +6,17 @@ use Rattle.laws.specs.declared.ChessRetraction.{ChessRetraction}
 use Rattle.laws.specs.declared.CastleRights.{CastleRights}
 use Rattle.laws.specs.declared.EnPassantFlag.{EnPassantFlag}
 use Rattle.laws.specs.Positions.{rightsOf}
-use Rattle.laws.specs.Acceptance.{kingsOk}
-use Rattle.laws.specs.Boards.{menAt, Clean}
-use Rattle.accept.specs.declared.Refusal.the-variants.{Stale}
+use Rattle.laws.specs.Boards.{menAt}
 use Rattle.accept.specs.declared.Verdict.{Verdict}
 use Rattle.accept.specs.declared.Verdict.the-variants.{Accepted, Refused}
-use Rattle.accept.specs.Verdicts.{unless, andThen, fiveOf}
+use Rattle.accept.specs.Verdicts.{fiveOf}
 use Rattle.placing.specs.declared.Position.{Position}
 use Rattle.unmake.specs.declared.Unmade.{Unmade}
 use Rattle.unmake.specs.Retracted.{unmadeTo}
 use Rattle.replay.specs.Replayed.{replayTo}
 use Rattle.board.specs.declared.RetractableBoard.{RetractableBoard}
 use Rattle.board.specs.declared.Boarded.{Boarded}
-use Rattle.board.specs.Gate.{posOn, freshBy, gateOf, noBoard, boardedBy}
+use Rattle.board.specs.Gate.{posOn, staleAfter, Kept, gateOf, noBoard, boardedBy}
 use Rattle.board.specs.Answers.{workedOf}
 
 -- a board's fields without the worked-out ones
@@ -47,7 +43,7 @@ unmadeBoard b r = elseBoard (gateOf b) (boardedOf (unmadeTo (posOn b) r))
 -- "Replay .. tests 1 to 5 and 7, not 6"
 unfoldable pub replayGateBy : List ℕ → List ℕ → Color → CastleRights → CastleRights → EnPassantFlag → (combined checkers pinned : ℕ) → Verdict
 replayGateBy pieces colors c w b st combined checkers pinned =
-    andThen (fiveOf pieces colors c (rightsOf w b) st) (unless (freshBy (menAt pieces colors) c combined checkers pinned) Stale Accepted)
+    staleAfter (fiveOf pieces colors c (rightsOf w b) st) (menAt pieces colors) c combined checkers pinned
 
 abbrev pub replayGate : RetractableBoard → Verdict
 replayGate b = replayGateBy (b .pieces) (b .colors) (b .turn) (b .white) (b .black) (b .passant) (b .combined) (b .checkers) (b .pinned)
@@ -62,4 +58,4 @@ earlierOf p k c w b st = boardedBy (fiveOf p k c (rightsOf w b) st) (workedOf p 
 
 -- what is asked of an answer whose board is worked out
 abbrev pub Sound : Unmade → Type 0
-Sound u = u .verdict ≡ Accepted → Clean (u .position .pieces) (u .position .colors) × (kingsOk (menAt (u .position .pieces) (u .position .colors)) ≡ true)
+Sound u = Kept (u .verdict) (u .position .pieces) (u .position .colors)

@@ -11,7 +11,7 @@ ghost use mathlib.Core.Bool.{true, not};
 ghost use Rattle.geometry.specs.Lines.{IsBetween};
 ghost use Rattle.laws.specs.Acceptance.{kingsOk};
 ghost use Rattle.laws.specs.Boards.{menAt, Clean};
-ghost use Rattle.board.specs.Gate.{freshBy, gateOf};
+ghost use Rattle.board.specs.Gate.{freshBy, staleAfter, gateOf, boardedBy, Kept};
 ghost use Rattle.board.specs.Answers.{workedOf, newOf};
 ghost use Rattle.board.specs.Moving.{earlierOf};
 
@@ -36,6 +36,31 @@ pub fn stale(
     !((combined == men) & (checkers == checks) & (pinned == pins))
 }
 
+// What is refused already, else 7.
+pub fn stale_after(
+    t: &[u64; 4096],
+    v: Verdict,
+    pieces: [u64; 6],
+    colors: [u64; 2],
+    turn: Color,
+    combined: u64,
+    checkers: u64,
+    pinned: u64,
+) -> Verdict
+    requires { ⌜ IsBetween (now t) × Kept v pieces colors ⌝ }
+    ensures { λ r. ⌜ r ≡ staleAfter v (menAt pieces colors) turn combined checkers pinned ⌝ }
+{
+    match v {
+        Verdict::Refused(r) => Verdict::Refused(r),
+        Verdict::Accepted => {
+            if stale(t, pieces, colors, turn, combined, checkers, pinned) {
+                return Verdict::Refused(Refusal::Stale);
+            }
+            Verdict::Accepted
+        }
+    }
+}
+
 // Refusals 1 to 7.
 pub fn gate(t: &[u64; 4096], b: RetractableBoard) -> Verdict
     requires { ⌜ IsBetween (now t) ⌝ }
@@ -48,15 +73,7 @@ pub fn gate(t: &[u64; 4096], b: RetractableBoard) -> Verdict
     let black = b.black;
     let passant = b.passant;
     let v = accept::inner::judge(t, pieces, colors, turn, white, black, passant);
-    match v {
-        Verdict::Refused(r) => Verdict::Refused(r),
-        Verdict::Accepted => {
-            if stale(t, pieces, colors, turn, b.combined, b.checkers, b.pinned) {
-                return Verdict::Refused(Refusal::Stale);
-            }
-            Verdict::Accepted
-        }
-    }
+    stale_after(t, v, pieces, colors, turn, b.combined, b.checkers, b.pinned)
 }
 
 // The union, checkers and pins of clean men, worked out.
@@ -88,6 +105,29 @@ pub fn worked(
     }
 }
 
+// What is refused already, else the board worked out.
+pub fn worked_after(
+    t: &[u64; 4096],
+    v: Verdict,
+    pieces: [u64; 6],
+    colors: [u64; 2],
+    turn: Color,
+    white: CastleRights,
+    black: CastleRights,
+    passant: EnPassantFlag,
+) -> Boarded
+    requires { ⌜ IsBetween (now t) × Kept v pieces colors ⌝ }
+    ensures { λ r. ⌜ r ≡ boardedBy v (workedOf pieces colors turn white black passant) ⌝ }
+{
+    match v {
+        Verdict::Refused(r) => super::board_by(Verdict::Refused(r), super::no_board()),
+        Verdict::Accepted => {
+            let b = worked(t, pieces, colors, turn, white, black, passant);
+            super::board_by(Verdict::Accepted, b)
+        }
+    }
+}
+
 // A board from raw men: refusals 1 to 6.
 pub fn board_from(
     t: &[u64; 4096],
@@ -102,13 +142,7 @@ pub fn board_from(
     ensures { λ r. ⌜ r ≡ newOf pieces colors turn white black passant ⌝ }
 {
     let v = accept::inner::judge(t, pieces, colors, turn, white, black, passant);
-    match v {
-        Verdict::Refused(r) => super::board_by(Verdict::Refused(r), super::no_board()),
-        Verdict::Accepted => {
-            let b = worked(t, pieces, colors, turn, white, black, passant);
-            super::board_by(Verdict::Accepted, b)
-        }
-    }
+    worked_after(t, v, pieces, colors, turn, white, black, passant)
 }
 
 // A board that replay takes, from raw men: refusals 1 to 5.
@@ -125,11 +159,5 @@ pub fn earlier_from(
     ensures { λ r. ⌜ r ≡ earlierOf pieces colors turn white black passant ⌝ }
 {
     let v = accept::inner::five(pieces, colors, turn, white, black, passant);
-    match v {
-        Verdict::Refused(r) => super::board_by(Verdict::Refused(r), super::no_board()),
-        Verdict::Accepted => {
-            let b = worked(t, pieces, colors, turn, white, black, passant);
-            super::board_by(Verdict::Accepted, b)
-        }
-    }
+    worked_after(t, v, pieces, colors, turn, white, black, passant)
 }

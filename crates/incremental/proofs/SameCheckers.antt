@@ -22,20 +22,24 @@ use Rattle.laws.specs.Positions.{Pos, retractor}
 use Rattle.laws.specs.Acceptance.{quiet, accepted}
 use Rattle.laws.specs.Moves.{Way}
 use Rattle.laws.specs.Unmaking.{wayBack, unmade}
+use Rattle.men.specs.Standing.{menOf}
 use Rattle.pins.specs.Kings.{TheKing, snipersOf}
-use Rattle.incremental.specs.Incremental.{xorTo, isPassant, asksKnights, asksPawns, knightsAt, pawnsAt, mid, sliderCheck, rustCheckers, rustPins}
+use Rattle.incremental.specs.Incremental.{xorTo, isPassant, asksKnights, asksPawns, knightsAt, pawnsAt, mid, sliderCheck, checkersAt, pinsAt, kingSquare, rustCheckers, rustPins}
 use Rattle.squares.proofs.Testing.{both, left, right, failed, bool-ext, agree, agree-eq}
 use Rattle.squares.proofs.Digits.{differs, has-xor, has-zero}
 use Rattle.squares.proofs.Comprehension.{is-upTo, has-setOf, upTo-lt}
 use Rattle.squares.proofs.Every.{all-at, all-cong, any-of, any-at, any-cong}
+use Rattle.squares.proofs.LeastMember.{least-or-64}
 use Rattle.geometry.proofs.Turned.{knight-sym, pawn-turned}
 use Rattle.tables.proofs.Paths.{clear-is}
 use Rattle.laws.proofs.Cases.{implies, given, every, everyMan, by-cases, by-colors, by-men}
 use Rattle.laws.proofs.Mans.{opp-opp, same, same-self, own-colour}
 use Rattle.laws.proofs.Facts.{accepts}
 use Rattle.laws.proofs.Retracting.{mover, canRetract, back}
+use Rattle.laws.proofs.Passes.{unmade-passes}
 use Rattle.attacks.proofs.Meets.{own, own-law}
-use Rattle.pins.proofs.OneKing.{any-king, slide-law}
+use Rattle.men.proofs.Having.{menOf-lt}
+use Rattle.pins.proofs.OneKing.{the-king, any-king, slide-law}
 use Rattle.incremental.proofs.Stood.{stood, other, no-king, no-knight, no-pawn, not-king, no-rook, no-man}
 use Rattle.incremental.proofs.SamePins.{pins-same}
 use Rattle.incremental.proofs.Xor.{xor-fits, has-xorTo}
@@ -178,8 +182,8 @@ module _ (p : Pos) (r : ChessRetraction) (ok : accepted p ≡ true) (can : canRe
   asked false f a t l e = has-zero a
 
   rust-at : (a : ℕ) → a < 64
-      → has (rustCheckers p r q) a ≡ found c (m a) (asksKnights p r) (asksPawns p r) (knightStep a q) (pawnTakes (opp c) a q) (diagonal a q) (straight a q) (clear (bare m) a q)
-  unfolding rustCheckers snipersOf
+      → has (checkersAt p r q) a ≡ found c (m a) (asksKnights p r) (asksPawns p r) (knightStep a q) (pawnTakes (opp c) a q) (diagonal a q) (straight a q) (clear (bare m) a q)
+  unfolding checkersAt snipersOf
   rust-at a l =
       has-xor (bitXor N P) S a ∙ ap₂ differs (has-xor N P a ∙ ap₂ differs (asked (asksKnights p r) (knightsAt m c q) a _ l kn) (asked (asksPawns p r) (pawnsAt m c q) a _ l pw)) sl
     where
@@ -213,20 +217,33 @@ module _ (p : Pos) (r : ChessRetraction) (ok : accepted p ≡ true) (can : canRe
       within (isOf (opp c) (m a)) (not (sameMan (m a) (man (opp c) King))) _ _ (own-law m (opp c) (m a) a q)
       ∙ ap (λ (t : Bool). (isOf (opp c) (m a) and not (sameMan (m a) (man (opp c) King))) and t) (sym (any-king m c q (attacks m (m a) a) the))
 
-  pub checkers-same : rustCheckers p r q ≡ checkersOf (unmade p r .men) (retractor p)
-  unfolding rustCheckers
-  checkers-same = is-upTo 64 (rustCheckers p r q) (checks m c) fits at
+  with-king : checkersAt p r q ≡ checkersOf (unmade p r .men) (retractor p)
+  unfolding checkersAt
+  with-king = is-upTo 64 (checkersAt p r q) (checks m c) fits at
     where
       none-lt : (b : Bool) (f : ℕ → Bool) → cond b (setOf f) 0 < 2 ^ 64
       none-lt true f = upTo-lt 64 f
       none-lt false f = pow-pos 64
 
-      fits : rustCheckers p r q < 2 ^ 64
+      fits : checkersAt p r q < 2 ^ 64
       fits = xor-lt 64 _ _ (xor-lt 64 _ _ (none-lt (asksKnights p r) (knightsAt m c q)) (none-lt (asksPawns p r) (pawnsAt m c q))) (xor-fits 64 (sliderCheck m c q) (check-lt m c q))
 
-      at : (a : ℕ) → a < 64 → has (rustCheckers p r q) a ≡ checks m c a
+      at : (a : ℕ) → a < 64 → has (checkersAt p r q) a ≡ checks m c a
       at a l = rust-at a l ∙ agree-eq _ _ (given (spared c (m a) (asksKnights p r) (asksPawns p r) (knightStep a q) (pawnTakes (opp c) a q)) _ (check-law c (m a) (asksKnights p r) (asksPawns p r) (knightStep a q) (pawnTakes (opp c) a q) (diagonal a q) (straight a q) (clear (bare m) a q) (kingStep a q)) (spares a l)) ∙ laws-at a l
 
-pub pins-same-back : (p : Pos) (r : ChessRetraction) (q : ℕ) → TheKing (unmade p r .men) (retractor p) q → rustPins p r q ≡ pinsOf (unmade p r .men) (retractor p)
-unfolding rustPins
-pins-same-back p r q the = pins-same (unmade p r .men) (retractor p) q the
+-- 2 passes on the un-made board, so the lowest king's square is that of the one king
+king-there : (p : Pos) (r : ChessRetraction) → accepted p ≡ true → canRetract p r ≡ true → TheKing (unmade p r .men) (retractor p) (kingSquare p r)
+king-there p r ok can = the-king m c (kingSquare p r) (unmade-passes p r ok can .kings) (least-or-64 (menOf m c King) (menOf-lt m c King))
+  where
+    m : Men
+    m = unmade p r .men
+
+    c : Color
+    c = retractor p
+
+pub checkers-same : (p : Pos) (r : ChessRetraction) → accepted p ≡ true → canRetract p r ≡ true → rustCheckers p r ≡ checkersOf (unmade p r .men) (retractor p)
+checkers-same p r ok can = with-king p r ok can (kingSquare p r) (king-there p r ok can)
+
+pub pins-same-back : (p : Pos) (r : ChessRetraction) → accepted p ≡ true → canRetract p r ≡ true → rustPins p r ≡ pinsOf (unmade p r .men) (retractor p)
+unfolding pinsAt
+pins-same-back p r ok can = pins-same (unmade p r .men) (retractor p) (kingSquare p r) (king-there p r ok can)

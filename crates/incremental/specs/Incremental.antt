@@ -1,9 +1,10 @@
--- Checkers and pins of an un-made board as `make_retraction_new` (board.rs, 382 to 420) finds them: knights and pawns only where
+-- Checkers and pins of an un-made board as `make_retraction_new` (board.rs, 390 to 423) finds them: knights and pawns only where
 -- the king moved or one of them reappeared, since the retractor's king was not attacked before; sliders always.
 use mathlib.Core.Bool.{Bool, true, false, not, cond}
 use Prim.Native.Nat.{ℕ, zero, suc}
 use lib.Dec.{eqb}
 use lib.Bits.{bitAnd, bitXor}
+use lib.Count.{trailingZeros}
 use Rattle.squares.specs.Tests.{_and_, _or_}
 use Rattle.squares.specs.Squares.{has, setOf, only, size}
 use Rattle.geometry.specs.declared.Color.{Color}
@@ -17,6 +18,7 @@ use Rattle.laws.specs.Attacks.{unionOf}
 use Rattle.laws.specs.Positions.{Pos, retractor}
 use Rattle.laws.specs.Moves.{Way, plain, passant, castling}
 use Rattle.laws.specs.Unmaking.{wayBack, unmade}
+use Rattle.men.specs.Standing.{menOf}
 use Rattle.pins.specs.Kings.{snipersOf}
 
 -- `for square in set { x ^= .. }`: the sets f a of the squares a below n, one after the other
@@ -55,12 +57,23 @@ sliderCheck m c q a = cond (has (snipersOf m (opp c) q) a and eqb (mid m q a) 0)
 abbrev pub sliderPin : Men → Color → ℕ → ℕ → ℕ
 sliderPin m c q a = cond (has (snipersOf m (opp c) q) a and not (eqb (mid m q a) 0) and eqb (size (mid m q a)) 1) (mid m q a) 0
 
--- the fields `checkers` and `pinned` of the result, its king on q
-unfoldable pub rustCheckers : Pos → ChessRetraction → ℕ → ℕ
-rustCheckers p r q =
+-- what is found with the king on q
+unfoldable pub checkersAt : Pos → ChessRetraction → ℕ → ℕ
+checkersAt p r q =
     let m = unmade p r .men in
     let c = retractor p in
     bitXor (bitXor (cond (asksKnights p r) (setOf (knightsAt m c q)) 0) (cond (asksPawns p r) (setOf (pawnsAt m c q)) 0)) (xorTo 64 (sliderCheck m c q))
 
-unfoldable pub rustPins : Pos → ChessRetraction → ℕ → ℕ
-rustPins p r q = xorTo 64 (sliderPin (unmade p r .men) (retractor p) q)
+unfoldable pub pinsAt : Pos → ChessRetraction → ℕ → ℕ
+pinsAt p r q = xorTo 64 (sliderPin (unmade p r .men) (retractor p) q)
+
+-- `king_bb.to_square()`
+abbrev pub kingSquare : Pos → ChessRetraction → ℕ
+kingSquare p r = trailingZeros 64 (menOf (unmade p r .men) (retractor p) King)
+
+-- the fields `checkers` and `pinned` of the result
+abbrev pub rustCheckers : Pos → ChessRetraction → ℕ
+rustCheckers p r = checkersAt p r (kingSquare p r)
+
+abbrev pub rustPins : Pos → ChessRetraction → ℕ
+rustPins p r = pinsAt p r (kingSquare p r)

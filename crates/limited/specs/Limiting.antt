@@ -1,4 +1,4 @@
--- `is_limited_in_retractions` (retraction_gen.rs, 275 to 335).
+-- `is_limited_in_retractions` (retraction_gen.rs, 280 to 333).
 use mathlib.Core.Bool.{Bool, true, false, not, cond}
 use mathlib.Core.List.{List}
 use Prim.Native.Nat.{ℕ}
@@ -25,13 +25,13 @@ use Rattle.retraction_gen.specs.Cursors.{nextOf}
 use Rattle.limited.specs.declared.Limited.{Limited}
 use Rattle.limited.specs.declared.Limited.the-variants.{Yes, No, Refused}
 
--- `if let EnPassantFlag::Some(_) = board.en_passant()` (284)
+-- `if let EnPassantFlag::Some(_) = board.en_passant()` (285)
 abbrev pub isNamed : EnPassantFlag → Bool
 isNamed Any = false
 isNamed (Some sq) = true
 isNamed None = false
 
--- `if iterator.next().is_none() { return true; }` (305, 330)
+-- `if iterator.next().is_none() { return true; }` (305, 328)
 abbrev pub byNext : Next → Limited
 byNext (Retraction r) = No
 byNext End = Yes
@@ -40,11 +40,13 @@ byNext End = Yes
 abbrev pub listLimited : List SourceAndTargets → List ℕ → Limited
 listLimited es ms = cond (ltb 47 (length es)) (Refused Full) (byNext (nextOf (startOf (holding es) ms) .next))
 
--- the list and the iterator of a board whose turn is c, whose state is st and whose other fields are b's (288 to 307, 313 to 332)
+-- the list of a board whose turn is c, whose state is st and whose other fields are b's (289 to 295, 312 to 318)
+abbrev pub officersOn : RetractableBoard → Color → EnPassantFlag → List SourceAndTargets
+officersOn b c st = officerListOf (b .pieces) (b .colors) (b .combined) c (b .white) (b .black) (b .pinned) (b .checkers) st
+
+-- and its iterator's first answer (297 to 307, 320 to 330)
 unfoldable pub sideOf : RetractableBoard → Color → EnPassantFlag → Limited
-sideOf b c st =
-    listLimited (officerListOf (b .pieces) (b .colors) (b .combined) c (b .white) (b .black) (b .pinned) (b .checkers) st)
-    (masksOf (b .pieces) (b .colors) c)
+sideOf b c st = listLimited (officersOn b c st) (masksOf (b .pieces) (b .colors) c)
 
 abbrev pub orElse : Limited → Limited → Limited
 orElse Yes later = Yes
@@ -55,7 +57,7 @@ orElse No later = later
 unfoldable pub sidesOf : RetractableBoard → Limited
 sidesOf b = orElse (sideOf b (b .turn) (b .passant)) (sideOf b (opp (b .turn)) Any)
 
--- `if board.checkers() != &EMPTY { return true; }` (280), and the named square
+-- `if board.checkers() != &EMPTY { return true; }` (281), and the named square
 unfoldable pub limitedFrom : RetractableBoard → Limited
 limitedFrom b = cond (not (eqb (b .checkers) 0) or isNamed (b .passant)) Yes (sidesOf b)
 

@@ -5,7 +5,6 @@ use board::RetractableBoard;
 use laws::Color;
 use laws::EnPassantFlag;
 use retraction_gen::Next;
-use retraction_gen::RetractionGen;
 ghost use mathlib.Core.Path.{_≡_};
 ghost use Rattle.geometry.specs.Lines.{IsBetween};
 ghost use Rattle.limited.specs.Limiting.{isNamed, sideOf, sidesOf, limitedFrom, limitedOf};
@@ -51,14 +50,7 @@ fn side(t: &[u64; 4096], b: RetractableBoard, turn: Color, passant: EnPassantFla
         return Limited::Refused(Refusal::Full);
     }
     let masks = masks::inner::candidates(pieces, colors, turn);
-    let entries = list.entries;
-    let g = RetractionGen {
-        entries,
-        len: list.len,
-        index: 0,
-        uncaptured: 0,
-        masks,
-    };
+    let g = retraction_gen::inner::started(list, masks);
     let s = g.next();
     let answer = s.next;
     match answer {

@@ -12,11 +12,13 @@ use Rattle.geometry.specs.declared.Color.{Color}
 use Rattle.geometry.specs.declared.Color.the-variants.{White, Black}
 use Rattle.laws.specs.declared.Piece.{Piece}
 use Rattle.laws.specs.declared.Piece.the-variants.{Pawn, Knight, Bishop, Rook, Queen, King}
-use Rattle.laws.specs.Men.{Man, empty, man, kindPlace, colorPlace, manNumber, isKind, isOf}
+use Rattle.laws.specs.Men.{Man, man, kindPlace, colorPlace, manNumber, sameMan, isKind, isOf}
 use Rattle.placement.specs.Letters.{placeOf, manOf, menOf, belongs}
 use Rattle.squares.proofs.Testing.{agree, agree-eq}
 use Rattle.squares.proofs.Comprehension.{upTo-cong}
 use Rattle.squares.proofs.Every.{all-at}
+use Rattle.laws.proofs.Cases.{by-men}
+use Rattle.laws.proofs.Mans.{same}
 use Rattle.laws.proofs.ManSets.{OnBoard}
 
 -- computed over the fourteen numbers
@@ -76,17 +78,5 @@ color-set l c = upTo-cong 64 _ _ (λ a h. color-in c (getD l (placeOf a) 0) ∙ 
 
 -- a man is the man of its number
 pub man-back : (x : Man) → manOf (manNumber x) ≡ x
-unfolding manOf
-man-back empty = refl
-man-back (man White Pawn) = refl
-man-back (man White Knight) = refl
-man-back (man White Bishop) = refl
-man-back (man White Rook) = refl
-man-back (man White Queen) = refl
-man-back (man White King) = refl
-man-back (man Black Pawn) = refl
-man-back (man Black Knight) = refl
-man-back (man Black Bishop) = refl
-man-back (man Black Rook) = refl
-man-back (man Black Queen) = refl
-man-back (man Black King) = refl
+unfolding manOf _and_
+man-back x = same (manOf (manNumber x)) x (by-men (λ y. sameMan (manOf (manNumber y)) y) refl x)

@@ -1,14 +1,13 @@
 -- Reading letters, leniently. Nobody has to believe this file: what the reader of a text answers is said by the printer's form alone.
 use mathlib.Core.Bool.{Bool, cond}
-use mathlib.Core.List.{List, [], _∷_}
+use mathlib.Core.List.{List}
 use Prim.Native.Nat.{ℕ, _+_, _-_, _*_, _/_, _%_}
 use lib.Dec.{eqb, leb, ltb}
 use lib.ListN.{getD}
 use Rattle.squares.specs.Tests.{_and_}
 use Rattle.squares.specs.Squares.{file, rank}
 use Rattle.geometry.specs.declared.Color.the-variants.{White, Black}
-use Rattle.laws.specs.declared.Piece.the-variants.{Pawn, Knight, Bishop, Rook, Queen, King}
-use Rattle.laws.specs.Men.{Man, empty, man, Men}
+use Rattle.laws.specs.Men.{Man, empty, manOf as manWith, Men}
 
 -- the number (`manNumber`) of a letter's man, 0 for a byte that is none
 unfoldable pub numberOf : ℕ → ℕ
@@ -25,13 +24,8 @@ unfoldable pub placeOf : ℕ → ℕ
 placeOf k = 8 * (7 - rank k) + file k
 
 -- the man of a number; a number above 13 is taken round
-abbrev pub inOrder : List Man
-inOrder =
-    empty ∷ empty ∷ man White Pawn ∷ man Black Pawn ∷ man White Knight ∷ man Black Knight ∷ man White Bishop ∷ man Black Bishop
-    ∷ man White Rook ∷ man Black Rook ∷ man White Queen ∷ man Black Queen ∷ man White King ∷ man Black King ∷ []
-
 unfoldable pub manOf : ℕ → Man
-manOf n = getD inOrder (n % 14) empty
+manOf n = manWith (n % 14)
 
 -- the men of 64 numbers in the text's order
 unfoldable pub menOf : List ℕ → Men

@@ -1,12 +1,28 @@
-// One turn of the cursor: what a call of the Rust's `next` does before it answers or calls itself.
+// The cursor's start, and one turn of it: what a call of the Rust's `next` does before it answers or calls itself.
 use super::RetractionGen;
 use super::Turn;
 use super::Turned;
 use laws::ChessRetraction;
+use roll::RetractionList;
 use roll::UnCaptureKind;
 ghost use mathlib.Core.Path.{_≡_};
 ghost use Prim.Native.Nat.{_<_};
+ghost use Rattle.retraction_gen.specs.Making.{startOf};
 ghost use Rattle.retraction_gen.specs.Cursors.{entryAt, lowestOf, spent, passing, against, barred, turnIn, onEntry, turnOf, wellFormed};
+
+// A cursor at its start.
+pub fn started(list: RetractionList, masks: [u64; 6]) -> RetractionGen
+    ensures { λ r. ⌜ r ≡ startOf list masks ⌝ }
+{
+    let entries = list.entries;
+    RetractionGen {
+        entries,
+        len: list.len,
+        index: 0,
+        uncaptured: 0,
+        masks,
+    }
+}
 
 // The lowest square, 64 of the empty set.
 fn lowest_target(s: u64) -> u8

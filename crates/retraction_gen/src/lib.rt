@@ -3,14 +3,13 @@ use accept::Refusal;
 use accept::Verdict;
 use board::RetractableBoard;
 use laws::ChessRetraction;
-use roll::RetractionList;
 use roll::SourceAndTargets;
 ghost use mathlib.Core.Path.{_≡_};
 ghost use Rattle.geometry.specs.Lines.{IsBetween};
-ghost use Rattle.retraction_gen.specs.Making.{startOf, refusedMade, madeFrom, madeOf, maskedOf};
+ghost use Rattle.retraction_gen.specs.Making.{refusedMade, madeFrom, madeOf, maskedOf};
 ghost use Rattle.retraction_gen.specs.Cursors.{nextOf};
 
-pub mod inner; // inner.rt: one turn of the cursor
+pub mod inner; // inner.rt: the cursor's start, and one turn of it
 
 // The entries, 47 at most; the place of the entry in work and the number of its uncapture; the squares of each uncapture.
 pub struct RetractionGen {
@@ -56,27 +55,13 @@ pub struct Turned {
     pub turn: Turn,
 }
 
-// A cursor at its start.
-fn started(list: RetractionList, masks: [u64; 6]) -> RetractionGen
-    ensures { λ r. ⌜ r ≡ startOf list masks ⌝ }
-{
-    let entries = list.entries;
-    RetractionGen {
-        entries,
-        len: list.len,
-        index: 0,
-        uncaptured: 0,
-        masks,
-    }
-}
-
 fn refused(why: Refusal) -> Made
     ensures { λ r. ⌜ r ≡ refusedMade why ⌝ }
 {
     let none = roll::inner::overfull();
     Made {
         verdict: Verdict::Refused(why),
-        cursor: started(none, [0; 6]),
+        cursor: inner::started(none, [0; 6]),
     }
 }
 
@@ -109,7 +94,7 @@ fn made_from(t: &[u64; 4096], b: RetractableBoard) -> Made
     let masks = masks::inner::candidates(pieces, colors, turn);
     Made {
         verdict: Verdict::Accepted,
-        cursor: started(list, masks),
+        cursor: inner::started(list, masks),
     }
 }
 

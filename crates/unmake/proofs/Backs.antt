@@ -128,17 +128,17 @@ module _ (p : Position) (r : ChessRetraction) (w : Way) (c : Color) {x : ℕ} (h
       before-on (wayOf w) c (r .target) (r .source) (leaving (r .unpromotion) c (menIn p (r .source))) (numbered (opp c) (r .uncaptured)) (menIn p)
       (h .target-in) (h .source-in) (h .fits) (men-on (p .pieces) (p .colors))
 
-  pub unmade-is : (y : ℕ) {m : Position} {d : Color} {u v : CastleRights} {f : EnPassantFlag}
+  pub unmade-is : (y : ℕ) {m : Position} {d t : Color} {u v : CastleRights} {f : EnPassantFlag}
       → m ≡ withMen p (beforeFor (wayOf w) c (r .target) (r .source) (manOf x) (manOf y) (menIn p)) → d ≡ opp c → y ≡ manNumber (manWith d (r .uncaptured))
       → u ≡ rightsFor (holds (p .white) short or (isShort (wayOf w) && isWhite c)) (holds (p .white) long or (isLong (wayOf w) && isWhite c))
       → v ≡ rightsFor (holds (p .black) short or (isShort (wayOf w) && not (isWhite c))) (holds (p .black) long or (isLong (wayOf w) && not (isWhite c)))
-      → f ≡ earlier .state
-      → _≡_ {A = Position} (record { pieces = m .pieces; colors = m .colors; turn = c; white = u; black = v; passant = f }) (positionOf earlier)
+      → f ≡ earlier .state → t ≡ c
+      → _≡_ {A = Position} (record { pieces = m .pieces; colors = m .colors; turn = t; white = u; black = v; passant = f }) (positionOf earlier)
   unfolding positionOf withMen beforeFor
-  unmade-is y {m} {d} {u} {v} {f} em ed ey eu ev ef = λ i. record {
+  unmade-is y {m} {d} {t} {u} {v} {f} em ed ey eu ev ef et = λ i. record {
     pieces = (men i) .pieces;
     colors = (men i) .colors;
-    turn = c;
+    turn = et i;
     white = (eu ∙ ap₂ rightsFor (right-back (wayOf w) c White short ρ) (right-back (wayOf w) c White long ρ)) i;
     black = (ev ∙ ap₂ rightsFor (right-back (wayOf w) c Black short ρ) (right-back (wayOf w) c Black long ρ)) i;
     passant = ef i;

@@ -1,7 +1,6 @@
 // Un-make and replay of a board that its gate let pass, over a lent table of squares between.
 use super::super::Boarded;
 use super::super::RetractableBoard;
-use accept::Refusal;
 use accept::Verdict;
 use laws::ChessRetraction;
 use placing::Position;
@@ -40,23 +39,14 @@ fn boarded(t: &[u64; 4096], u: Unmade) -> Boarded
     ensures { λ r. ⌜ r ≡ boardedOf u ⌝ }
 {
     let v = u.verdict;
-    match v {
-        Verdict::Refused(w) => super::super::board_by(
-            Verdict::Refused(w),
-            super::super::no_board(),
-        ),
-        Verdict::Accepted => {
-            let p = u.position;
-            let pieces = p.pieces;
-            let colors = p.colors;
-            let turn = p.turn;
-            let white = p.white;
-            let black = p.black;
-            let passant = p.passant;
-            let b = super::worked(t, pieces, colors, turn, white, black, passant);
-            super::super::board_by(Verdict::Accepted, b)
-        }
-    }
+    let p = u.position;
+    let pieces = p.pieces;
+    let colors = p.colors;
+    let turn = p.turn;
+    let white = p.white;
+    let black = p.black;
+    let passant = p.passant;
+    super::worked_after(t, v, pieces, colors, turn, white, black, passant)
 }
 
 // Refusals 1 to 5 and 7: the move that is replayed may leave a check.
@@ -71,15 +61,7 @@ pub fn replay_gate(t: &[u64; 4096], b: RetractableBoard) -> Verdict
     let black = b.black;
     let passant = b.passant;
     let v = accept::inner::five(pieces, colors, turn, white, black, passant);
-    match v {
-        Verdict::Refused(r) => Verdict::Refused(r),
-        Verdict::Accepted => {
-            if super::stale(t, pieces, colors, turn, b.combined, b.checkers, b.pinned) {
-                return Verdict::Refused(Refusal::Stale);
-            }
-            Verdict::Accepted
-        }
-    }
+    super::stale_after(t, v, pieces, colors, turn, b.combined, b.checkers, b.pinned)
 }
 
 // Un-make: refusals 9 to 12, or the earlier board.

@@ -1,5 +1,5 @@
 -- `limited::sides` meets its contract.
-use mathlib.Core.Path.{_∙_, sym}
+use mathlib.Core.Path.{refl, _∙_, sym}
 use borrow.Author.Needs.{needs}
 use Rattle.limited.specs.Limiting.{sidesOf}
 use Rattle.limited.proofs.sides.Statement.{statement}
@@ -33,7 +33,7 @@ returns-2 c = rw (sym (c .before .before .before .side .ensures) ∙ c .before .
 
 returns-3 : tie.Need-returns-3
 unfolding sidesOf
-returns-3 c = rw (c .side2 .ensures, c .before .other .ensures, sym (c .before .before .before .before .side .ensures) ∙ c .before .before .enum-told2 .given .1)
+returns-3 c = rw (c .side2 .ensures, c .before .other .ensures, sym (c .before .before .before .before .side .ensures) ∙ c .before .before .enum-told2 .given .1) refl
 
 pub sides-spec : {M : Type 1} → statement M
 sides-spec =

@@ -1,5 +1,5 @@
 -- `board::RetractableBoard::is_attacked` meets its contract.
-use mathlib.Core.Path.{_∙_, sym, _≡_}
+use mathlib.Core.Path.{refl, _∙_, sym, _≡_}
 use native.Mathlib.Omega.{arith}
 use lib.ListN.{getD, length}
 use borrow.Author.Tests.{lt-ltb, le-ltb}
@@ -36,7 +36,7 @@ returns-2 : tie.Need-returns-2
 returns-2 c = rw (sym (c .before .before .before .gate .ensures) ∙ c .before .v .given .1)
 
 returns-3 : tie.Need-returns-3
-returns-3 c = c .told .ensures ∙ rw (c .before .is-attacked .ensures, sym (c .before .before .before .before .before .before .before .before .gate .ensures) ∙ c .before .before .before .before .before .before .enum-told .given .1, lt-ltb (c .before .before .before .before .before .before .before .before .before .before .before .args .sq) 64 (omega arith))
+returns-3 c = c .told .ensures ∙ rw (c .before .is-attacked .ensures, sym (c .before .before .before .before .before .before .before .before .gate .ensures) ∙ c .before .before .before .before .before .before .enum-told .given .1, lt-ltb (c .before .before .before .before .before .before .before .before .before .before .before .args .sq) 64 (omega arith)) refl
 
 pub is-attacked-spec : {M : Type 1} → statement M
 is-attacked-spec =

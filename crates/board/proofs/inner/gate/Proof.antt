@@ -1,40 +1,24 @@
 -- `board::inner::gate` meets its contract.
-use mathlib.Core.Path.{_∙_, sym, _≡_}
+use mathlib.Core.Path.{_≡_, _∙_, sym}
 use lib.ListN.{getD, length}
-use borrow.Author.Needs.{needs}
-use Rattle.laws.specs.Positions.{rightsOf}
-use Rattle.board.specs.Gate.{gateBy}
 use mir.Val.{Fits}
 use mir.Syntax.{w64}
+use Rattle.laws.specs.Positions.{rightsOf}
+use Rattle.board.specs.Gate.{gateBy}
 use Rattle.board.proofs.Passing.{judged-clean}
+use borrow.Author.Needs.{needs}
 use Rattle.board.proofs.inner.gate.Statement.{statement}
 use Rattle.board.proofs.inner.gate.Tie as tie
 
 judge-requires : tie.Need-judge-requires
 judge-requires c κs = search needs
 
-enum-known-v : tie.Need-enum-known-v
-enum-known-v c = search needs
-
-enum-told : tie.Need-enum-told
-enum-told c = search needs
-
-stale-requires : tie.Need-stale-requires
-stale-requires c κs = let b = c .before .before .before .before .before .args .b in let k = judged-clean (b .pieces) (b .colors) (b .turn) (rightsOf (b .white) (b .black)) (b .passant) (let e : length (b .pieces) ≡ 6 = search needs in e) (let e : length (b .colors) ≡ 2 = search needs in e) (λ i. let f : Fits w64 (getD (b .pieces) i 0) = search needs in f .fits) (λ i. let f : Fits w64 (getD (b .colors) i 0) = search needs in f .fits) (sym (c .before .before .judge .ensures) ∙ c .enum-told .given .1) in (c .before .before .before .before .before .pre, k .0, k .1)
+stale-after-requires : tie.Need-stale-after-requires
+stale-after-requires c κs = let b = c .before .before .before .args .b in (c .before .before .before .pre, λ h. judged-clean (b .pieces) (b .colors) (b .turn) (rightsOf (b .white) (b .black)) (b .passant) (let e : length (b .pieces) ≡ 6 = search needs in e) (let e : length (b .colors) ≡ 2 = search needs in e) (λ i. let f : Fits w64 (getD (b .pieces) i 0) = search needs in f .fits) (λ i. let f : Fits w64 (getD (b .colors) i 0) = search needs in f .fits) (sym (c .judge .ensures) ∙ h))
 
 returns : tie.Need-returns
 unfolding gateBy
-returns c = rw (sym (c .before .before .before .before .judge .ensures) ∙ c .before .before .enum-told .given .1, sym (c .before .stale .ensures) ∙ c .if1 .taken)
-
-returns-2 : tie.Need-returns-2
-unfolding gateBy
-returns-2 c = rw (sym (c .before .before .before .judge .ensures) ∙ c .before .v .given .1)
-
-returns-3 : tie.Need-returns-3
-unfolding gateBy
-returns-3 c = rw (sym (c .before .before .before .before .judge .ensures) ∙ c .before .before .enum-told .given .1, sym (c .before .stale .ensures) ∙ c .if1 .left)
+returns c = c .stale-after .ensures ∙ rw (c .before .judge .ensures)
 
 pub gate-spec : {M : Type 1} → statement M
-gate-spec =
-    tie.close
-    (tie.spec judge-requires enum-known-v enum-told stale-requires returns returns-2 returns-3)
+gate-spec = tie.close (tie.spec judge-requires stale-after-requires returns)

@@ -1,4 +1,5 @@
 -- `moves::inner::is_named` meets its contract.
+use mathlib.Core.Path.{refl}
 use borrow.Author.Needs.{needs}
 use Rattle.moves.proofs.inner.is_named.Statement.{statement}
 use Rattle.moves.proofs.inner.is_named.Tie as tie
@@ -13,7 +14,7 @@ enum-told-2 : tie.Need-enum-told-2
 enum-told-2 c = search needs
 
 returns : tie.Need-returns
-returns c = search needs
+returns c = rw (c .enum-told .given .1) refl
 
 returns-2 : tie.Need-returns-2
 returns-2 c = rw (c .before .state .given .1)

@@ -1,8 +1,10 @@
 -- `souls::inner::minors` meets its contract.
+use mathlib.Core.Path.{_≡_}
 use native.Mathlib.Omega.{arith}
 use borrow.Author.Needs.{needs}
+use Rattle.squares.specs.Squares.{has}
 use Rattle.laws.specs.Boards.{menAt}
-use Rattle.souls.specs.Parts.{minorsOf}
+use Rattle.souls.specs.Parts.{bishopsOn, minorsOf}
 use Rattle.souls.proofs.Counted.{light-is, dark-is}
 use Rattle.souls.proofs.inner.minors.Statement.{statement}
 use Rattle.souls.proofs.inner.minors.Tie as tie
@@ -30,7 +32,12 @@ add-result-2 c = search needs
 
 returns : tie.Need-returns
 unfolding minorsOf
-returns c = (rw (c .before .before .before .before .surplus .ensures .0, c .before .above .ensures, c .above2 .ensures, c .before .before .before .bishops-on .ensures .0, c .before .before .bishops-on2 .ensures .0, light-is (menAt (c .before .before .before .before .before .args .pieces) (c .before .before .before .before .before .args .colors)) (c .before .before .before .before .before .args .color), dark-is (menAt (c .before .before .before .before .before .args .pieces) (c .before .before .before .before .before .args .colors)) (c .before .before .before .before .before .args .color)), omega arith)
+returns c =
+    let a = c .before .before .before .before .before .args in
+    let m = menAt (a .pieces) (a .colors) in
+    let light : c .before .before .before .bishops-on .result ≡ bishopsOn m (a .color) (has 0x55aa_55aa_55aa_55aa) = c .before .before .before .bishops-on .ensures .0 in
+    let dark : c .before .before .bishops-on2 .result ≡ bishopsOn m (a .color) (has 0xaa55_aa55_aa55_aa55) = c .before .before .bishops-on2 .ensures .0 in
+    (rw (c .before .before .before .before .surplus .ensures .0, c .before .above .ensures, c .above2 .ensures, light, dark, light-is m (a .color), dark-is m (a .color)), omega arith)
 
 pub minors-spec : {M : Type 1} → statement M
 minors-spec =

@@ -1,4 +1,5 @@
 -- `unmake::inner::back::state_before` meets its contract.
+use mathlib.Core.Path.{refl}
 use borrow.Author.Needs.{needs}
 use Rattle.unmake.proofs.inner.back.state_before.Statement.{statement}
 use Rattle.unmake.proofs.inner.back.state_before.Tie as tie
@@ -19,7 +20,7 @@ enum-told-4 : tie.Need-enum-told-4
 enum-told-4 c = search needs
 
 returns : tie.Need-returns
-returns c = search needs
+returns c = rw (c .enum-told .given .1) refl
 
 returns-2 : tie.Need-returns-2
 returns-2 c = rw (c .before .enum-told2 .given .1, c .behind .ensures .0)

@@ -1,5 +1,5 @@
 -- `unmake::inner::back::unmade` meets its contract.
-use mathlib.Core.Path.{_∙_}
+use mathlib.Core.Path.{refl, _∙_}
 use borrow.Author.Needs.{needs}
 use Rattle.unmake.proofs.Backs.{unmade-is}
 use Rattle.unmake.proofs.inner.back.unmade.Statement.{statement}
@@ -35,7 +35,7 @@ with-rights-requires-2 c κs = search needs
 returns : tie.Need-returns
 returns c = unmade-is (c .before .before .before .before .before .before .before .before .before .before .before .args .p) (c .before .before .before .before .before .before .before .before .before .before .before .args .r) (c .before .before .before .before .before .before .before .before .before .before .before .args .w) (c .before .before .before .before .before .before .before .before .before .before .before .args .c) (c .before .before .before .before .before .before .before .before .before .before .before .pre) _ (c .before .before .before .before .before .before .before .before .before2 .ensures) (c .before .before .before .before .before .before .before .before .before .before .other .ensures) (c .before .before .before .before .before .before .before .before .before .man-number .ensures .0)
     (c .before .before .before .with-rights .ensures ∙ rw (c .before .before .before .before .before .is-short .ensures, c .before .before .before .before .is-long .ensures, c .before .before .before .before .before .before .is-white .ensures))
-    (c .before .before .with-rights2 .ensures ∙ rw (c .before .before .before .before .before .is-short .ensures, c .before .before .before .before .is-long .ensures, c .before .before .before .before .before .before .is-white .ensures)) (c .before .before .before .before .before .before .before .state-before .ensures)
+    (c .before .before .with-rights2 .ensures ∙ rw (c .before .before .before .before .before .is-short .ensures, c .before .before .before .before .is-long .ensures, c .before .before .before .before .before .before .is-white .ensures)) (c .before .before .before .before .before .before .before .state-before .ensures) refl
 
 pub unmade-spec : {M : Type 1} → statement M
 unmade-spec =
