@@ -8,7 +8,8 @@ use roll::UnCaptureKind;
 ghost use mathlib.Core.Path.{_≡_};
 ghost use Prim.Native.Nat.{_<_};
 ghost use Rattle.retraction_gen.specs.Making.{startOf};
-ghost use Rattle.retraction_gen.specs.Cursors.{entryAt, lowestOf, spent, passing, against, barred, turnIn, onEntry, turnOf, wellFormed};
+ghost use Rattle.retraction_gen.specs.declared.Turn.the-variants.{Again, Found};
+ghost use Rattle.retraction_gen.specs.Cursors.{turned, entryAt, lowestOf, spent, passing, against, barred, turnIn, onEntry, turnOf, wellFormed};
 
 // A cursor at its start.
 pub fn started(list: RetractionList, masks: [u64; 6]) -> RetractionGen
@@ -72,6 +73,24 @@ fn spend(g: RetractionGen) -> RetractionGen
     out
 }
 
+fn found(cursor: RetractionGen, r: ChessRetraction) -> Turned
+    ensures { λ z. ⌜ z ≡ turned cursor (Found r) ⌝ }
+{
+    Turned {
+        cursor,
+        turn: Turn::Found(r),
+    }
+}
+
+fn again(cursor: RetractionGen) -> Turned
+    ensures { λ z. ⌜ z ≡ turned cursor Again ⌝ }
+{
+    Turned {
+        cursor,
+        turn: Turn::Again,
+    }
+}
+
 fn turn_in(g: RetractionGen) -> Turned
     requires { ⌜ g .index < 47 ⌝ }
     ensures { λ r. ⌜ r ≡ turnIn g (entryAt g) ⌝ }
@@ -87,28 +106,18 @@ fn turn_in(g: RetractionGen) -> Turned
             uncaptured: 0,
             unpromotion: false,
         };
-        let g2 = spend(g);
-        return Turned {
-            cursor: g2,
-            turn: Turn::Found(r),
-        };
+        return found(spend(g), r);
     }
     let u = g.uncaptured;
     if u >= 6 {
         let mut g2 = spend(g);
         g2.uncaptured = 0;
-        return Turned {
-            cursor: g2,
-            turn: Turn::Again,
-        };
+        return again(g2);
     }
     let mut g2 = g;
     g2.uncaptured = u + 1;
     if is_barred(g.masks[u as usize], e.source, k, u) {
-        return Turned {
-            cursor: g2,
-            turn: Turn::Again,
-        };
+        return again(g2);
     }
     let r = ChessRetraction {
         source: e.source,
@@ -116,10 +125,7 @@ fn turn_in(g: RetractionGen) -> Turned
         uncaptured: u,
         unpromotion: e.unpromotion,
     };
-    Turned {
-        cursor: g2,
-        turn: Turn::Found(r),
-    }
+    found(g2, r)
 }
 
 fn on_entry(g: RetractionGen) -> bool
@@ -143,10 +149,7 @@ pub fn one_turn(g: RetractionGen) -> Turned
     if lowest_target(targets) > 63 {
         let mut g2 = g;
         g2.index = i + 1;
-        return Turned {
-            cursor: g2,
-            turn: Turn::Again,
-        };
+        return again(g2);
     }
     turn_in(g)
 }

@@ -31,9 +31,12 @@ lowest-target-requires c κs = search needs
 add-g2 : tie.Need-add-g2
 add-g2 c = omega (arith, on-index _ (on (c .before .before)))
 
+again-requires : tie.Need-again-requires
+again-requires c κs = search needs
+
 returns-2 : tie.Need-returns-2
 unfolding turnOf
-returns-2 c = rw (on (c .before .before), ← c .before .lowest-target .ensures, lt-ltb _ _ (c .if2 .taken))
+returns-2 c = rw (c .again .ensures, on (c .before .before .before), ← c .before .before .lowest-target .ensures, lt-ltb _ _ (c .before .if2 .taken))
 
 turn-in-requires : tie.Need-turn-in-requires
 turn-in-requires c κs = on-index _ (on (c .before .before))
@@ -52,6 +55,7 @@ one-turn-spec =
     element-copy-out-targets
     lowest-target-requires
     add-g2
+    again-requires
     returns-2
     turn-in-requires
     returns-3)

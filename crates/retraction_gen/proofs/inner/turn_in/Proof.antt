@@ -1,7 +1,7 @@
 -- `retraction_gen::inner::turn_in` meets its contract.
 use borrow.Author.Tests.{le-leb, lt-leb}
-use borrow.Author.Needs.{needs}
 use Rattle.retraction_gen.specs.Cursors.{turnIn}
+use borrow.Author.Needs.{needs}
 use Rattle.retraction_gen.proofs.inner.turn_in.Statement.{statement}
 use Rattle.retraction_gen.proofs.inner.turn_in.Tie as tie
 
@@ -20,16 +20,22 @@ passes-requires c κs = search needs
 spend-requires : tie.Need-spend-requires
 spend-requires c κs = search needs
 
+found-requires : tie.Need-found-requires
+found-requires c κs = search needs
+
 returns : tie.Need-returns
 unfolding turnIn
-returns c = rw (← c .before .before .passes .ensures, c .before .if1 .taken, c .spend .ensures, c .before .before .before .lowest-target .ensures)
+returns c = rw (c .found .ensures, ← c .before .before .before .passes .ensures, c .before .before .if1 .taken, c .before .spend .ensures, c .before .before .before .before .lowest-target .ensures)
 
 spend-requires-2 : tie.Need-spend-requires-2
 spend-requires-2 c κs = search needs
 
+again-requires : tie.Need-again-requires
+again-requires c κs = search needs
+
 returns-2 : tie.Need-returns-2
 unfolding turnIn
-returns-2 c = rw (← c .before .before .before .passes .ensures, c .before .before .if1 .left, le-leb _ _ (c .before .if2 .taken), c .spend2 .ensures)
+returns-2 c = rw (c .again .ensures, ← c .before .before .before .before .passes .ensures, c .before .before .before .if1 .left, le-leb _ _ (c .before .before .if2 .taken), c .before .spend2 .ensures)
 
 add-g2 : tie.Need-add-g2
 add-g2 c = search needs
@@ -46,13 +52,19 @@ element-copy-out-is-barred c = search needs
 is-barred-requires : tie.Need-is-barred-requires
 is-barred-requires c κs = search needs
 
+again-requires-2 : tie.Need-again-requires-2
+again-requires-2 c κs = search needs
+
 returns-3 : tie.Need-returns-3
 unfolding turnIn
-returns-3 c = rw (← c .before .before .before .before .before .passes .ensures, c .before .before .before .before .if1 .left, lt-leb _ _ (c .before .before .before .if2 .left), ← c .before .is-barred .ensures, c .if3 .taken)
+returns-3 c = rw (c .again2 .ensures, ← c .before .before .before .before .before .before .passes .ensures, c .before .before .before .before .before .if1 .left, lt-leb _ _ (c .before .before .before .before .if2 .left), ← c .before .before .is-barred .ensures, c .before .if3 .taken)
+
+found-requires-2 : tie.Need-found-requires-2
+found-requires-2 c κs = search needs
 
 returns-4 : tie.Need-returns-4
 unfolding turnIn
-returns-4 c = rw (← c .before .before .before .before .before .passes .ensures, c .before .before .before .before .if1 .left, lt-leb _ _ (c .before .before .before .if2 .left), ← c .before .is-barred .ensures, c .if3 .left, c .before .before .before .before .before .before .lowest-target .ensures)
+returns-4 c = rw (c .found2 .ensures, ← c .before .before .before .before .before .before .passes .ensures, c .before .before .before .before .before .if1 .left, lt-leb _ _ (c .before .before .before .before .if2 .left), ← c .before .before .is-barred .ensures, c .before .if3 .left, c .before .before .before .before .before .before .before .lowest-target .ensures)
 
 pub turn-in-spec : {M : Type 1} → statement M
 turn-in-spec =
@@ -63,13 +75,17 @@ turn-in-spec =
     lowest-target-requires
     passes-requires
     spend-requires
+    found-requires
     returns
     spend-requires-2
+    again-requires
     returns-2
     add-g2
     cast-is-barred
     mul-is-barred
     element-copy-out-is-barred
     is-barred-requires
+    again-requires-2
     returns-3
+    found-requires-2
     returns-4)
