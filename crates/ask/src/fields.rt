@@ -10,7 +10,7 @@ pub(super) fn byte(line: &[u8], at: usize) -> u8 {
 }
 
 // The line begins with a word.
-pub fn starts(line: &[u8], word: &[u8]) -> bool {
+pub(super) fn starts(line: &[u8], word: &[u8]) -> bool {
     let mut i = 0;
     while i < word.len() {
         if byte(line, i) != word[i] {
