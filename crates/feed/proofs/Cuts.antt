@@ -67,6 +67,7 @@ cutBy p stop n = record {
   long = p .long or ltb n (stop - p .at);
   ready = ltb stop (p .end);
   over = false;
+  failed = false;
 }
 
 module _ (s l x : List ℕ) (p : Part) (stop n at : ℕ) (e : stop ≡ stopOf s p) (k : n ≡ min (stop - p .at) (512 - p .len)) where
@@ -74,10 +75,10 @@ module _ (s l x : List ℕ) (p : Part) (stop n at : ℕ) (e : stop ≡ stopOf s 
   kept-is = k ∙ ap (λ (i : ℕ). min (i - p .at) (512 - p .len)) e
 
   pub cut-is : at ≡ cond (ltb stop (p .end)) (stop + 1) (p .end)
-      → record { at = at; end = p .end; len = p .len + n; long = p .long || ltb n (stop - p .at); ready = ltb stop (p .end); over = false } ≡ cutOf s p
+      → record { at = at; end = p .end; len = p .len + n; long = p .long || ltb n (stop - p .at); ready = ltb stop (p .end); over = false; failed = false } ≡ cutOf s p
   unfolding _or_
   cut-is h =
-      (λ i. record { at = h i; end = p .end; len = p .len + n; long = p .long or ltb n (stop - p .at); ready = ltb stop (p .end); over = false })
+      (λ i. record { at = h i; end = p .end; len = p .len + n; long = p .long or ltb n (stop - p .at); ready = ltb stop (p .end); over = false; failed = false })
       ∙ ap₂ (cutBy p) e kept-is
 
   pub line-is : x ≡ paste l (p .len) (drop (p .at) s) n → x ≡ lineOf s p l

@@ -8,7 +8,7 @@ use lib.Seq.{paste}
 use Rattle.squares.specs.Tests.{_or_}
 use Rattle.feed.specs.declared.Part.{Part}
 use Rattle.feed.specs.declared.Step.{Step}
-use Rattle.feed.specs.declared.Step.the-variants.{Line, End}
+use Rattle.feed.specs.declared.Step.the-variants.{Line, End, Failed}
 
 -- the place of the first newline among the n bytes from `at` on, or the place past them
 unfoldable pub stopFrom : List ℕ → ℕ → ℕ → ℕ
@@ -32,6 +32,7 @@ cutOf s p = record {
   long = p .long or ltb (keptOf s p) (stopOf s p - p .at);
   ready = ltb (stopOf s p) (p .end);
   over = false;
+  failed = false;
 }
 
 -- the line's buffer after the cut
@@ -48,3 +49,4 @@ pub record Fit (p : Part) : Type 0 where
 abbrev pub Sound : Step → Type 0
 Sound (Line n long c) = n ≤ 512
 Sound End = Unit {0}
+Sound Failed = Unit {0}

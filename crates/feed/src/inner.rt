@@ -67,5 +67,6 @@ pub fn cut(chunk: &[u8; 65536], line: &mut [u8; 512], p: Part) -> Part
         long: p.long | (n < stop - at),
         ready: stop < end,
         over: false,
+        failed: false,
     }
 }

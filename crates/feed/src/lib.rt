@@ -14,7 +14,7 @@ pub struct Cursor {
     pub end: usize,
 }
 
-// A line whose first `len` bytes are in the line's buffer (`long`: it had more), or the end of the input.
+// A line whose first `len` bytes are in the line's buffer (`long`: it had more), the end of the input, or a read that failed.
 pub enum Step {
     Line {
         len: usize,
@@ -22,9 +22,10 @@ pub enum Step {
         next: Cursor,
     },
     End,
+    Failed,
 }
 
-// A line on its way into the line's buffer: `ready` at its newline, `over` at the end of the input.
+// A line on its way into the line's buffer: `ready` at its newline, `over` at the end of the input, where `failed` says why it ended.
 pub struct Part {
     pub at: usize,
     pub end: usize,
@@ -32,6 +33,7 @@ pub struct Part {
     pub long: bool,
     pub ready: bool,
     pub over: bool,
+    pub failed: bool,
 }
 
 // Nothing is read yet.
@@ -79,6 +81,7 @@ fn from(at: usize, end: usize) -> Part
         long: false,
         ready: false,
         over: false,
+        failed: false,
     }
 }
 
@@ -98,11 +101,11 @@ fn turn(chunk: &mut [u8; 65536], line: &mut [u8; 512], p: Part) -> Part
     }
     let got = libc::read(STDIN_FILENO, chunk);
     let n = io::count(got, chunk);
-    filled(p, n)
+    filled(p, n, got < 0)
 }
 
-// After a read of n bytes. At the end of the input what has no newline is a line too.
-fn filled(p: Part, n: usize) -> Part
+// After a read of n bytes, none where it failed. At the end of the input what has no newline is a line too.
+fn filled(p: Part, n: usize, failed: bool) -> Part
     requires { ⌜ Fit p × (n ≤ 65536) ⌝ }
     ensures { λ r. ⌜ Fit r ⌝ }
 {
@@ -113,6 +116,7 @@ fn filled(p: Part, n: usize) -> Part
         long: p.long,
         ready: (n == 0) & (p.len > 0),
         over: n == 0,
+        failed,
     }
 }
 
@@ -129,6 +133,9 @@ fn step_of(p: Part) -> Step
                 end: p.end,
             },
         };
+    }
+    if p.failed {
+        return Step::Failed;
     }
     Step::End
 }

@@ -26,15 +26,23 @@ fn answer_all(
     let mut turns = u64::MAX;
     while turns > 0 {
         let s = feed::next(chunk, line, c);
-        let Step::Line { len, long: _, next } = s else {
-            return;
-        };
-        if !answer_line(line, len, listed, strict, out) {
-            io::write_all(STDERR_FILENO, b"lastmoves: the output cannot be written\n");
-            return;
+        match s {
+            Step::End => {
+                return;
+            }
+            Step::Failed => {
+                io::write_all(STDERR_FILENO, b"lastmoves: the input cannot be read\n");
+                return;
+            }
+            Step::Line { len, long: _, next } => {
+                if !answer_line(line, len, listed, strict, out) {
+                    io::write_all(STDERR_FILENO, b"lastmoves: the output cannot be written\n");
+                    return;
+                }
+                c = next;
+                turns -= 1;
+            }
         }
-        c = next;
-        turns -= 1;
     }
 }
 

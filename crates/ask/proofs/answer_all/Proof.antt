@@ -26,9 +26,6 @@ next-requires c κs = search needs
 enum-known-s : tie.Need-enum-known-s Inv-loop μ-loop
 enum-known-s c = search needs
 
-enum-told : tie.Need-enum-told Inv-loop μ-loop
-enum-told c = search needs
-
 returns : tie.Need-returns Inv-loop μ-loop
 returns c = search needs
 
@@ -57,7 +54,6 @@ answer-all-spec =
     loop-holds
     next-requires
     enum-known-s
-    enum-told
     returns
     answer-requires
     sub-turns

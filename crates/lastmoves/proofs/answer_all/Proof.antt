@@ -9,10 +9,10 @@ use Rattle.lastmoves.proofs.answer_all.Statement.{statement}
 use Rattle.lastmoves.proofs.answer_all.Tie as tie
 
 abbrev Inv-loop : tie.InvT-loop
-Inv-loop chunk₀ line₀ listed₀ strict₀ out₀ c₀ turns₀ t11 chunk line listed strict out c turns = Unit {0}
+Inv-loop chunk₀ line₀ listed₀ strict₀ out₀ c₀ turns₀ t11 t12 chunk line listed strict out c turns = Unit {0}
 
 abbrev μ-loop : tie.MeasureT-loop
-μ-loop chunk₀ line₀ listed₀ strict₀ out₀ c₀ turns₀ t11 chunk line listed strict out c turns = turns
+μ-loop chunk₀ line₀ listed₀ strict₀ out₀ c₀ turns₀ t11 t12 chunk line listed strict out c turns = turns
 
 start-requires : tie.Need-start-requires Inv-loop μ-loop
 start-requires c κs = search needs
@@ -23,17 +23,14 @@ loop-holds c = tt
 next-requires : tie.Need-next-requires Inv-loop μ-loop
 next-requires c κs = search needs
 
-enum-known-s : tie.Need-enum-known-s Inv-loop μ-loop
-enum-known-s c = search needs
-
 enum-told : tie.Need-enum-told Inv-loop μ-loop
 enum-told c = search needs
 
 returns : tie.Need-returns Inv-loop μ-loop
 returns c = search needs
 
-answer-line-requires : tie.Need-answer-line-requires Inv-loop μ-loop
-answer-line-requires c κs = let k : c .before .before .before .before .before .before .s .given .0 .0 ≤ 512 = subst Sound (c .before .before .before .before .before .before .s .given .1) (c .before .before .before .before .before .before .before .before .next .ensures) in let e : length (c .before .before .before .before .before .before .before .before .next .last .1 .0) ≡ 512 = search needs in omega arith
+enum-told-2 : tie.Need-enum-told-2 Inv-loop μ-loop
+enum-told-2 c = search needs
 
 slice-aggregate-write-all : tie.Need-slice-aggregate-write-all Inv-loop μ-loop
 slice-aggregate-write-all c = search needs
@@ -44,6 +41,21 @@ write-all-requires c κs = search needs
 returns-2 : tie.Need-returns-2 Inv-loop μ-loop
 returns-2 c = search needs
 
+enum-known-s : tie.Need-enum-known-s Inv-loop μ-loop
+enum-known-s c = search needs
+
+answer-line-requires : tie.Need-answer-line-requires Inv-loop μ-loop
+answer-line-requires c κs = let k : c .before .before .before .before .before .before .s .given .0 .0 ≤ 512 = subst Sound (c .before .before .before .before .before .before .s .given .1) (c .before .before .before .before .before .before .before .before .next .ensures) in let e : length (c .before .before .before .before .before .before .before .before .next .last .1 .0) ≡ 512 = search needs in omega arith
+
+slice-aggregate-write-all-2 : tie.Need-slice-aggregate-write-all-2 Inv-loop μ-loop
+slice-aggregate-write-all-2 c = search needs
+
+write-all-requires-2 : tie.Need-write-all-requires-2 Inv-loop μ-loop
+write-all-requires-2 c κs = search needs
+
+returns-3 : tie.Need-returns-3 Inv-loop μ-loop
+returns-3 c = search needs
+
 sub-turns : tie.Need-sub-turns Inv-loop μ-loop
 sub-turns c = omega arith
 
@@ -53,8 +65,8 @@ loop-less c = omega arith
 loop-again : tie.Need-loop-again Inv-loop μ-loop
 loop-again c = tt
 
-returns-3 : tie.Need-returns-3 Inv-loop μ-loop
-returns-3 c = search needs
+returns-4 : tie.Need-returns-4 Inv-loop μ-loop
+returns-4 c = search needs
 
 pub answer-all-spec : {M : Type 1} → statement M
 answer-all-spec =
@@ -65,14 +77,18 @@ answer-all-spec =
     start-requires
     loop-holds
     next-requires
-    enum-known-s
     enum-told
     returns
-    answer-line-requires
+    enum-told-2
     slice-aggregate-write-all
     write-all-requires
     returns-2
+    enum-known-s
+    answer-line-requires
+    slice-aggregate-write-all-2
+    write-all-requires-2
+    returns-3
     sub-turns
     loop-less
     loop-again
-    returns-3)
+    returns-4)
