@@ -17,6 +17,13 @@ ghost use Rattle.listing.specs.Listing.{fillFrom, roomFor, roomedIn};
 ghost use Rattle.strict.specs.Searching.{testOf, Looks, Next};
 ghost use Rattle.strict.specs.Demand.{strictMoves};
 
+// 64 sources, 64 targets, 6 uncaptured men, 2 marks; those of one source, and those of one source and target.
+pub const PLACES: usize = 49152;
+
+const OF_A_SOURCE: usize = 768;
+
+const OF_A_PAIR: usize = 12;
+
 // The position of a board that its gate let pass.
 pub fn today(b: RetractableBoard) -> Position
     requires { ⌜ gateOf b ≡ Accepted ⌝ }
@@ -25,14 +32,14 @@ pub fn today(b: RetractableBoard) -> Position
     board::inner::moving::placed(b)
 }
 
-// The retraction at a place: 64 sources, 64 targets, 6 uncaptured men, 2 marks.
+// The retraction at a place.
 fn candidate(i: usize) -> ChessRetraction
     requires { ⌜ i < 49152 ⌝ }
     ensures { λ r. ⌜ r ≡ placed i ⌝ }
 {
     ChessRetraction {
-        source: (i / 768) as u8,
-        target: (i / 12 % 64) as u8,
+        source: (i / OF_A_SOURCE) as u8,
+        target: (i / OF_A_PAIR % 64) as u8,
         uncaptured: (i / 2 % 6) as u8,
         unpromotion: i % 2 == 1,
     }
@@ -45,13 +52,13 @@ fn look(t: &[u64; 4096], p: Position, i: usize) -> usize
 {
     let r = candidate(i);
     if !unmake::inner::source_ok(p, r) {
-        return (i / 768 + 1) * 768;
+        return (i / OF_A_SOURCE + 1) * OF_A_SOURCE;
     }
     if !unmake::inner::target_ok(p, r) {
-        return (i / 12 + 1) * 12;
+        return (i / OF_A_PAIR + 1) * OF_A_PAIR;
     }
     if !strictness::inner::coming::can_come(t, p, r) {
-        return (i / 12 + 1) * 12;
+        return (i / OF_A_PAIR + 1) * OF_A_PAIR;
     }
     if strictness::inner::is_strict(t, p, r) {
         return i;
@@ -65,7 +72,7 @@ pub fn next_from(t: &[u64; 4096], p: Position, start: usize) -> usize
     ensures { λ j. ⌜ Next (testOf (posAt p)) start j ⌝ }
 {
     let mut i = start;
-    while i < 49152 {
+    while i < PLACES {
         let j = look(t, p, i);
         if j == i {
             return i;
@@ -81,9 +88,9 @@ pub fn count(t: &[u64; 4096], p: Position) -> usize
 {
     let mut n: usize = 0;
     let mut i: usize = 0;
-    while i < 49152 {
+    while i < PLACES {
         let j = next_from(t, p, i);
-        if j == 49152 {
+        if j == PLACES {
             return n;
         }
         n += 1;
@@ -99,9 +106,9 @@ fn fill(t: &[u64; 4096], p: Position, slots: &mut [u16])
 {
     let mut n: usize = 0;
     let mut i: usize = 0;
-    while i < 49152 {
+    while i < PLACES {
         let j = next_from(t, p, i);
-        if j == 49152 {
+        if j == PLACES {
             return;
         }
         slots[n] = laws::inner::pack(candidate(j));

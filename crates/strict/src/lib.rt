@@ -60,7 +60,7 @@ pub fn last_move(b: RetractableBoard) -> LastMove
         Verdict::Accepted => {
             let p = inner::today(b);
             let first = inner::next_from(&t, p, 0);
-            if first < 49152 {
+            if first < inner::PLACES {
                 return LastMove::Exists;
             }
             LastMove::NoLastMove

@@ -2,3 +2,4 @@ pub mod Entries
 pub mod BetweenRule
 pub mod Paths
 pub mod Pawns
+pub mod OneTable
