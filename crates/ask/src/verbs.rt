@@ -23,30 +23,84 @@ pub(super) fn reply(line: &[u8], out: &mut [u8; 2048]) -> usize
     if end <= 2048 { end } else { 0 }
 }
 
-// A line without a known verb has an empty answer.
-fn by_verb(line: &[u8], out: &mut [u8; 2048]) -> usize {
+enum Verb {
+    Unmake,
+    Replay,
+    Raw,
+    Limited,
+    Entries,
+    Count,
+    Strict,
+    Unknown,
+}
+
+fn first_word(line: &[u8]) -> Verb {
     if fields::starts(line, b"unmake\t") {
-        return unmake(line, out);
+        return Verb::Unmake;
     }
     if fields::starts(line, b"replay\t") {
-        return replay(line, out);
+        return Verb::Replay;
     }
     if fields::starts(line, b"raw\t") {
-        return raw(line, out);
+        return Verb::Raw;
     }
     if fields::starts(line, b"limited\t") {
-        return limited(line, out);
+        return Verb::Limited;
     }
     if fields::starts(line, b"entries\t") {
-        return entries(line, out);
+        return Verb::Entries;
     }
     if fields::starts(line, b"count\t") {
-        return count(line, out);
+        return Verb::Count;
     }
     if fields::starts(line, b"strict\t") {
-        return strict(line, out);
+        return Verb::Strict;
     }
-    0
+    Verb::Unknown
+}
+
+// A line without a known verb has an empty answer.
+fn by_verb(line: &[u8], out: &mut [u8; 2048]) -> usize {
+    let v = first_word(line);
+    match v {
+        Verb::Unmake => unmake(line, out),
+        Verb::Replay => replay(line, out),
+        Verb::Raw => raw(line, out),
+        Verb::Limited => of_text(Verb::Limited, line, out),
+        Verb::Entries => of_text(Verb::Entries, line, out),
+        Verb::Count => of_text(Verb::Count, line, out),
+        Verb::Strict => of_text(Verb::Strict, line, out),
+        Verb::Unknown => 0,
+    }
+}
+
+// The verbs whose one field is a text.
+fn of_text(verb: Verb, line: &[u8], out: &mut [u8; 2048]) -> usize {
+    let today = read(line, fields::after(line, 0, b'\t'));
+    let v = today.verdict;
+    match v {
+        Verdict::Refused(w) => put_refused(w, out),
+        Verdict::Accepted => {
+            let b = today.board;
+            of_board(verb, b, out)
+        }
+    }
+}
+
+fn of_board(verb: Verb, b: RetractableBoard, out: &mut [u8; 2048]) -> usize {
+    match verb {
+        Verb::Limited => put_limited(limited::is_limited_in_retractions(b), out),
+        Verb::Entries => lists::put_made(RetractionGen::new_legal(b), out),
+        Verb::Count => {
+            let mut slots = [0u16; 4096];
+            put_count(listing::retractions_into(b, &mut slots), out)
+        }
+        Verb::Strict => put_strict(strict::strict_count(b), out),
+        Verb::Unmake => 0,
+        Verb::Replay => 0,
+        Verb::Raw => 0,
+        Verb::Unknown => 0,
+    }
 }
 
 fn unmake(line: &[u8], out: &mut [u8; 2048]) -> usize {
@@ -113,62 +167,11 @@ fn raw_board(line: &[u8], turn: usize, pieces: [u64; 6], colors: [u64; 2]) -> Bo
     RetractableBoard::new(pieces, colors, color, white, black, passant)
 }
 
-fn limited(line: &[u8], out: &mut [u8; 2048]) -> usize {
-    let today = read(line, fields::after(line, 0, b'\t'));
-    let v = today.verdict;
-    match v {
-        Verdict::Refused(w) => put_refused(w, out),
-        Verdict::Accepted => {
-            let b = today.board;
-            put_limited(limited::is_limited_in_retractions(b), out)
-        }
-    }
-}
-
-fn entries(line: &[u8], out: &mut [u8; 2048]) -> usize {
-    let today = read(line, fields::after(line, 0, b'\t'));
-    let v = today.verdict;
-    match v {
-        Verdict::Refused(w) => put_refused(w, out),
-        Verdict::Accepted => {
-            let b = today.board;
-            lists::put_made(RetractionGen::new_legal(b), out)
-        }
-    }
-}
-
-// How many retractions the list has.
-fn count(line: &[u8], out: &mut [u8; 2048]) -> usize {
-    let today = read(line, fields::after(line, 0, b'\t'));
-    let v = today.verdict;
-    match v {
-        Verdict::Refused(w) => put_refused(w, out),
-        Verdict::Accepted => {
-            let b = today.board;
-            let mut slots = [0u16; 4096];
-            put_count(listing::retractions_into(b, &mut slots), out)
-        }
-    }
-}
-
 fn put_count(l: Listed, out: &mut [u8; 2048]) -> usize {
     match l {
         Listed::Count(n) => feed::put_decimal(out, 0, n as u64),
         Listed::Room(n) => feed::put_decimal(out, 0, n as u64),
         Listed::Refused(r) => put_refused(r, out),
-    }
-}
-
-// How many strict retractions there are.
-fn strict(line: &[u8], out: &mut [u8; 2048]) -> usize {
-    let today = read(line, fields::after(line, 0, b'\t'));
-    let v = today.verdict;
-    match v {
-        Verdict::Refused(w) => put_refused(w, out),
-        Verdict::Accepted => {
-            let b = today.board;
-            put_strict(strict::strict_count(b), out)
-        }
     }
 }
 

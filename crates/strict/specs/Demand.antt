@@ -53,7 +53,7 @@ pub record Counts (b : RetractableBoard) (r : Counted) : Type 0 where
   pub exact : gateOf b ≡ Accepted → IsStrictList b moves
   pub answer : r ≡ countedBy (gateOf b) moves
 
--- ""No last move" is said exactly when no such board and move exist"
+-- "No last move" is said "exactly when no such board and move exist"
 pub record Answers (b : RetractableBoard) (r : LastMove) : Type 0 where
   pub refused : (why : Refusal) → gateOf b ≡ Refused why → r ≡ notAnswered why
   pub exists : gateOf b ≡ Accepted → (r ≡ Exists) ↔ ((q : ChessRetraction) × Past b q)
