@@ -1,14 +1,36 @@
 -- An answer as document 01 has it: a number, 0 where nothing is refused, and the values beside it. Each answer that is an enum has a
 -- definition that says which (`..Says`), and the promises are made of what it says.
-use mathlib.Core.Bool.{cond}
-use mathlib.Core.List.{List, [], _∷_}
+use mathlib.Core.Bool.{Bool, cond}
+use mathlib.Core.List.{List, [], _∷_, _++_}
 use Prim.Native.Nat.{ℕ}
-use lib.Dec.{leb}
+use lib.Dec.{eqb, leb}
+use Rattle.geometry.specs.declared.Color.{Color}
+use Rattle.laws.specs.declared.EnPassantFlag.{EnPassantFlag}
+use Rattle.laws.specs.Positions.{Rights}
+use Rattle.laws.specs.Acceptance.{kingsOk, pawnsOk, rightsOk, stateOk, quiet}
+use Rattle.laws.specs.Boards.{menAt, menOk}
 use Rattle.accept.specs.declared.Refusal.{Refusal}
-use Rattle.accept.specs.declared.Refusal.the-variants.{Room}
-use Rattle.accept.specs.declared.Verdict.{Verdict}
-use Rattle.accept.specs.declared.Verdict.the-variants.{Accepted, Refused}
 use Rattle.accept.specs.Verdicts.{numberOf}
+
+-- a test, and the number that is given where it fails
+infix 10 _else_
+pub data Test : Type 0 where
+  _else_ : (passes : Bool) (number : ℕ) → Test
+
+-- "Numbers of refusal, in order of test": the number of the first test that fails, 0 where all pass
+unfoldable pub firstFailing : List Test → ℕ
+firstFailing [] = 0
+firstFailing ((ok else n) ∷ ts) = cond ok (firstFailing ts) n
+
+-- "Replay .. tests 1 to 5"
+abbrev pub fiveTests : List ℕ → List ℕ → Color → Rights → EnPassantFlag → List Test
+fiveTests pieces colors c ρ st =
+    (menOk pieces colors else 1) ∷ (kingsOk (menAt pieces colors) else 2) ∷ (pawnsOk (menAt pieces colors) else 3)
+    ∷ (rightsOk (menAt pieces colors) ρ else 4) ∷ (stateOk (menAt pieces colors) c st else 5) ∷ []
+
+-- "raw men come in through 1 to 6"
+abbrev pub rawTests : List ℕ → List ℕ → Color → Rights → EnPassantFlag → List Test
+rawTests pieces colors c ρ st = fiveTests pieces colors c ρ st ++ ((quiet (menAt pieces colors) c else 6) ∷ [])
 
 pub data Said : Type 0 where
   says : (number : ℕ) (values : List ℕ) → Said
@@ -24,15 +46,11 @@ told vs = says 0 vs
 abbrev pub refusal : Refusal → Said
 refusal r = says (numberOf r) []
 
--- "ROOM also returns the number of slots or bytes needed"
-abbrev pub room : ℕ → Said
-room n = says (numberOf Room) (n ∷ [])
-
--- what v refuses, or, where it accepts, x
-abbrev pub saidBy : Verdict → Said → Said
-saidBy Accepted x = x
-saidBy (Refused r) x = refusal r
-
--- "13 ROOM: the lent slice is shorter than the answer": n slots or bytes go into a slice that has m
+-- "13 ROOM: the lent slice is shorter than the answer", which has n slots or bytes, the slice m; "ROOM also returns the number of slots
+-- or bytes needed"
 abbrev pub fitting : ℕ → ℕ → Said
-fitting n m = cond (leb n m) (told (n ∷ [])) (room n)
+fitting n m = cond (leb n m) (told (n ∷ [])) (says 13 (n ∷ []))
+
+-- the number of the first test that fails, or, where all pass, x
+unfoldable pub behind : List Test → Said → Said
+behind ts x = cond (eqb (firstFailing ts) 0) x (says (firstFailing ts) [])
