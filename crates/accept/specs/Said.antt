@@ -10,27 +10,28 @@ use Rattle.laws.specs.Positions.{Rights}
 use Rattle.laws.specs.Acceptance.{kingsOk, pawnsOk, rightsOk, stateOk, quiet}
 use Rattle.laws.specs.Boards.{menAt, menOk}
 use Rattle.accept.specs.declared.Refusal.{Refusal}
+use Rattle.accept.specs.declared.Refusal.the-variants.{Men as men, Kings as kings, Pawn as pawn, Rights as rights, Passant as passant, Check as check, Room as room}
 use Rattle.accept.specs.Verdicts.{numberOf}
 
--- a test, and the number that is given where it fails
+-- a test, and the refusal that is given where it fails
 infix 10 _else_
 pub data Test : Type 0 where
-  _else_ : (passes : Bool) (number : ℕ) → Test
+  _else_ : (passes : Bool) (why : Refusal) → Test
 
 -- "Numbers of refusal, in order of test": the number of the first test that fails, 0 where all pass
 unfoldable pub firstFailing : List Test → ℕ
 firstFailing [] = 0
-firstFailing ((ok else n) ∷ ts) = cond ok (firstFailing ts) n
+firstFailing ((ok else why) ∷ ts) = cond ok (firstFailing ts) (numberOf why)
 
 -- "Replay .. tests 1 to 5"
 abbrev pub fiveTests : List ℕ → List ℕ → Color → Rights → EnPassantFlag → List Test
 fiveTests pieces colors c ρ st =
-    (menOk pieces colors else 1) ∷ (kingsOk (menAt pieces colors) else 2) ∷ (pawnsOk (menAt pieces colors) else 3)
-    ∷ (rightsOk (menAt pieces colors) ρ else 4) ∷ (stateOk (menAt pieces colors) c st else 5) ∷ []
+    (menOk pieces colors else men) ∷ (kingsOk (menAt pieces colors) else kings) ∷ (pawnsOk (menAt pieces colors) else pawn)
+    ∷ (rightsOk (menAt pieces colors) ρ else rights) ∷ (stateOk (menAt pieces colors) c st else passant) ∷ []
 
 -- "raw men come in through 1 to 6"
 abbrev pub rawTests : List ℕ → List ℕ → Color → Rights → EnPassantFlag → List Test
-rawTests pieces colors c ρ st = fiveTests pieces colors c ρ st ++ ((quiet (menAt pieces colors) c else 6) ∷ [])
+rawTests pieces colors c ρ st = fiveTests pieces colors c ρ st ++ ((quiet (menAt pieces colors) c else check) ∷ [])
 
 pub data Said : Type 0 where
   says : (number : ℕ) (values : List ℕ) → Said
@@ -49,7 +50,7 @@ refusal r = says (numberOf r) []
 -- "13 ROOM: the lent slice is shorter than the answer", which has n slots or bytes, the slice m; "ROOM also returns the number of slots
 -- or bytes needed"
 abbrev pub fitting : ℕ → ℕ → Said
-fitting n m = cond (leb n m) (told (n ∷ [])) (says 13 (n ∷ []))
+fitting n m = cond (leb n m) (told (n ∷ [])) (says (numberOf room) (n ∷ []))
 
 -- the number of the first test that fails, or, where all pass, x
 unfoldable pub behind : List Test → Said → Said

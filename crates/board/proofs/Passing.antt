@@ -19,13 +19,15 @@ use Rattle.laws.specs.Boards.{menAt, menOk, Clean}
 use Rattle.accept.specs.declared.Refusal.the-variants.{Men as men, Kings as kings, Check as check, Stale}
 use Rattle.accept.specs.declared.Verdict.the-variants.{Accepted}
 use Rattle.accept.specs.Verdicts.{verdictNumber, unless, andThen, firstOf, thirdOf, fiveOf, judgedOf}
+use Rattle.accept.specs.Said.{firstFailing, rawTests}
 use Rattle.board.specs.declared.RetractableBoard.{RetractableBoard}
 use Rattle.board.specs.declared.PieceOn.the-variants.{Kind}
-use Rattle.board.specs.Gate.{menOn, posOn, freshBy, gateBy, gateOf}
+use Rattle.board.specs.Gate.{menOn, posOn, freshBy, gateBy, gateOf, boardTests}
 use Rattle.board.specs.Answers.{kindOn, pieceNumbered}
 use Rattle.squares.proofs.Testing.{both, left, right, agree, agree-eq}
 use Rattle.laws.proofs.Cases.{by-cases}
 use Rattle.laws.proofs.Cleaning.{Bounded, clean}
+use Rattle.accept.proofs.Saying.{then-number, judged-number}
 use Rattle.accept.proofs.Numbered.{Five, both-accept, test-passes, judged-passes}
 
 -- arrays that pass 1 to 6
@@ -70,6 +72,15 @@ gate-passed b h = record {
         test-passes (freshBy (menOn b) (b .turn) (b .combined) (b .checkers) (b .pinned)) Stale Accepted
         (both-accept (judgedOf (b .pieces) (b .colors) (b .turn) (rightsOf (b .white) (b .black)) (b .passant))
         (unless (freshBy (menOn b) (b .turn) (b .combined) (b .checkers) (b .pinned)) Stale Accepted) h .1) .0
+
+-- the number of the gate's verdict is that of the first test that fails
+pub gate-number : (b : RetractableBoard) → verdictNumber (gateOf b) ≡ firstFailing (boardTests b)
+unfolding gateBy
+gate-number b =
+    then-number (judgedOf (b .pieces) (b .colors) (b .turn) (rightsOf (b .white) (b .black)) (b .passant))
+    (rawTests (b .pieces) (b .colors) (b .turn) (rightsOf (b .white) (b .black)) (b .passant))
+    (freshBy (menOn b) (b .turn) (b .combined) (b .checkers) (b .pinned)) Stale
+    (judged-number (b .pieces) (b .colors) (b .turn) (rightsOf (b .white) (b .black)) (b .passant))
 
 -- 7 is given exactly when 1 to 6 pass and union, checkers or pins are not those of the men
 pub stale-exactly : (b : RetractableBoard)

@@ -1,7 +1,7 @@
 -- The gate: refusals 1 to 7 of a board.
 use mathlib.Core.Path.{_≡_}
 use mathlib.Core.Bool.{Bool, true}
-use mathlib.Core.List.{List, [], _∷_}
+use mathlib.Core.List.{List, [], _∷_, _++_}
 use Prim.Native.Nat.{ℕ}
 use lib.Dec.{eqb}
 use Rattle.squares.specs.Tests.{_and_}
@@ -20,6 +20,7 @@ use Rattle.accept.specs.declared.Refusal.the-variants.{Stale}
 use Rattle.accept.specs.declared.Verdict.{Verdict}
 use Rattle.accept.specs.declared.Verdict.the-variants.{Accepted, Refused}
 use Rattle.accept.specs.Verdicts.{unless, andThen, judgedOf}
+use Rattle.accept.specs.Said.{Test, _else_, rawTests}
 use Rattle.board.specs.declared.RetractableBoard.{RetractableBoard}
 use Rattle.board.specs.declared.Boarded.{Boarded}
 
@@ -60,9 +61,15 @@ unfoldable pub gateBy : List ℕ → List ℕ → Color → CastleRights → Cas
 gateBy pieces colors c w b st combined checkers pinned =
     staleAfter (judgedOf pieces colors c (rightsOf w b) st) (menAt pieces colors) c combined checkers pinned
 
--- "A board passing 1 to 7 is accepted": the first of 1 to 7 that is given
+-- the first of 1 to 7 that is given
 abbrev pub gateOf : RetractableBoard → Verdict
 gateOf b = gateBy (b .pieces) (b .colors) (b .turn) (b .white) (b .black) (b .passant) (b .combined) (b .checkers) (b .pinned)
+
+-- "A board passing 1 to 7 is accepted": the tests in their order, with their numbers
+abbrev pub boardTests : RetractableBoard → List Test
+boardTests b =
+    rawTests (b .pieces) (b .colors) (b .turn) (rightsOf (b .white) (b .black)) (b .passant)
+    ++ ((freshBy (menOn b) (b .turn) (b .combined) (b .checkers) (b .pinned) else Stale) ∷ [])
 
 -- "A refusal writes nothing and returns no board": no men, White to move, no rights, unknown state
 abbrev pub noBoard : RetractableBoard

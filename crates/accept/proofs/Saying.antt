@@ -1,0 +1,106 @@
+-- What is said behind tests: the verdicts have the numbers of the first test that fails, and a number tells its refusal.
+use mathlib.Core.Path.{_≡_, refl, sym, ap, _∙_}
+use mathlib.Core.Bool.{Bool, true, false, not, cond, false≢true}
+use mathlib.Core.List.{List, [], _∷_, _++_}
+use Prim.Native.Nat.{ℕ}
+use lib.Dec.{eqb}
+use lib.ListN.{getD}
+use borrow.Author.Tests.{eqb-true}
+use Rattle.squares.specs.Tests.{_and_}
+use Rattle.geometry.specs.declared.Color.{Color}
+use Rattle.laws.specs.declared.EnPassantFlag.{EnPassantFlag}
+use Rattle.laws.specs.Positions.{Rights}
+use Rattle.laws.specs.Acceptance.{kingsOk, pawnsOk, rightsOk, stateOk, quiet}
+use Rattle.laws.specs.Boards.{menAt, menOk}
+use Rattle.accept.specs.declared.Refusal.{Refusal}
+use Rattle.accept.specs.declared.Refusal.the-variants.{Men as men, Kings as kings, Pawn as pawn, Rights as rights, Passant as passant, Check as check, Stale as stale, Full as full, Source as source, Target as target, Held as held, Step as step, Room as room, Text as text}
+use Rattle.accept.specs.declared.Verdict.{Verdict}
+use Rattle.accept.specs.declared.Verdict.the-variants.{Accepted, Refused}
+use Rattle.accept.specs.Verdicts.{numberOf, verdictNumber, unless, andThen, firstOf, thirdOf, fiveOf, judgedOf}
+use Rattle.accept.specs.Said.{Test, _else_, firstFailing, fiveTests, rawTests, Said, refusal, behind}
+use Rattle.laws.proofs.Cases.{by-cases}
+
+-- a number of refusal is never 0
+some-number : (r : Refusal) → eqb (numberOf r) 0 ≡ false
+some-number men = refl
+some-number kings = refl
+some-number pawn = refl
+some-number rights = refl
+some-number passant = refl
+some-number check = refl
+some-number stale = refl
+some-number full = refl
+some-number source = refl
+some-number target = refl
+some-number held = refl
+some-number step = refl
+some-number room = refl
+some-number text = refl
+
+-- tests behind tests
+pub more-tests : (ts us : List Test) → firstFailing (ts ++ us) ≡ cond (eqb (firstFailing ts) 0) (firstFailing us) (firstFailing ts)
+unfolding firstFailing
+more-tests [] us = refl
+more-tests ((true else r) ∷ ts) us = more-tests ts us
+more-tests ((false else r) ∷ ts) us = rw (some-number r)
+
+-- a further test behind those whose first number a verdict has
+pub then-number : (v : Verdict) (ts : List Test) (ok : Bool) (r : Refusal) → verdictNumber v ≡ firstFailing ts
+    → verdictNumber (andThen v (unless ok r Accepted)) ≡ firstFailing (ts ++ ((ok else r) ∷ []))
+unfolding firstFailing
+then-number Accepted ts true r h = rw (more-tests ts ((true else r) ∷ []), ← h)
+then-number Accepted ts false r h = rw (more-tests ts ((false else r) ∷ []), ← h)
+then-number (Refused q) ts ok r h = rw (more-tests ts ((ok else r) ∷ []), ← h, some-number q)
+
+module _ (pieces colors : List ℕ) (c : Color) (ρ : Rights) (st : EnPassantFlag) where
+  -- 1 to 5, and 1 to 6
+  pub five-number : verdictNumber (fiveOf pieces colors c ρ st) ≡ firstFailing (fiveTests pieces colors c ρ st)
+  unfolding fiveOf thirdOf firstFailing _and_
+  five-number =
+      eqb-true _ _ (by-cases 5 (λ a b d e f. eqb (verdictNumber (unless a men (unless b kings (firstOf (not d) (not e) (not f)))))
+      (firstFailing ((a else men) ∷ (b else kings) ∷ (d else pawn) ∷ (e else rights) ∷ (f else passant) ∷ []))) refl
+      (menOk pieces colors) (kingsOk (menAt pieces colors)) (pawnsOk (menAt pieces colors)) (rightsOk (menAt pieces colors) ρ) (stateOk (menAt pieces colors) c st))
+
+  pub judged-number : verdictNumber (judgedOf pieces colors c ρ st) ≡ firstFailing (rawTests pieces colors c ρ st)
+  unfolding judgedOf
+  judged-number = then-number (fiveOf pieces colors c ρ st) (fiveTests pieces colors c ρ st) (quiet (menAt pieces colors) c) check five-number
+
+-- a number tells its refusal
+numberedBy : ℕ → Refusal
+numberedBy n = getD (text ∷ men ∷ kings ∷ pawn ∷ rights ∷ passant ∷ check ∷ stale ∷ full ∷ source ∷ target ∷ held ∷ step ∷ room ∷ text ∷ []) n text
+
+by-number : (r : Refusal) → numberedBy (numberOf r) ≡ r
+unfolding numberedBy
+by-number men = refl
+by-number kings = refl
+by-number pawn = refl
+by-number rights = refl
+by-number passant = refl
+by-number check = refl
+by-number stale = refl
+by-number full = refl
+by-number source = refl
+by-number target = refl
+by-number held = refl
+by-number step = refl
+by-number room = refl
+by-number text = refl
+
+pub number-one : (r q : Refusal) → numberOf r ≡ numberOf q → r ≡ q
+number-one r q h = sym (by-number r) ∙ ap numberedBy h ∙ by-number q
+
+pub verdict-one : (v w : Verdict) → verdictNumber v ≡ verdictNumber w → v ≡ w
+verdict-one Accepted Accepted h = refl
+verdict-one Accepted (Refused q) h = absurd (false≢true (sym (some-number q) ∙ ap (λ (n : ℕ). eqb n 0) (sym h)))
+verdict-one (Refused r) Accepted h = absurd (false≢true (sym (some-number r) ∙ ap (λ (n : ℕ). eqb n 0) h))
+verdict-one (Refused r) (Refused q) h = ap Refused (number-one r q h)
+
+-- what a verdict refuses, or, where it accepts, x
+abbrev pub saidBy : Verdict → Said → Said
+saidBy Accepted x = x
+saidBy (Refused r) x = refusal r
+
+pub behind-by : (v : Verdict) (ts : List Test) (x : Said) → verdictNumber v ≡ firstFailing ts → saidBy v x ≡ behind ts x
+unfolding behind
+behind-by Accepted ts x h = rw (← h)
+behind-by (Refused r) ts x h = rw (← h, some-number r)
