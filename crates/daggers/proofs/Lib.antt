@@ -1,3 +1,4 @@
 pub mod Texts
 pub mod Alone
 pub mod Daggers
+pub mod Computed

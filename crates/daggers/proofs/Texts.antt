@@ -17,13 +17,12 @@ use Rattle.board.specs.declared.RetractableBoard.{RetractableBoard}
 use Rattle.board.specs.declared.Boarded.{Boarded}
 use Rattle.board.specs.Gate.{posOn, gateOf, boardedBy}
 use Rattle.board.specs.Answers.{workedOf}
-use Rattle.listing.specs.declared.Listed.{Listed}
-use Rattle.strict.specs.Demand.{Among, IsStrictList, Lists}
+use Rattle.strict.specs.Demand.{Among, IsStrictList}
 use Rattle.text.specs.Form.{Fields, printed, Says, fieldsOf}
 use Rattle.text.specs.Reading.{startOf, runOf, rawOf}
 use Rattle.text.specs.Entries.{boardSaid, Reads, said}
 use Rattle.daggers.specs.Names.{bytes}
-use Rattle.daggers.specs.Table.{StrictOf}
+use Rattle.daggers.specs.Table.{OnText, StrictOf}
 use Rattle.squares.proofs.Testing.{both, failed}
 use Rattle.squares.proofs.Every.{all-at}
 use Rattle.squares.proofs.Comprehension.{flag-lt}
@@ -56,10 +55,12 @@ module _ (t : String) (prints : printed (fieldsIn t) ≡ bytes t) (lawful : acce
       read-one (bytes t) b (boardSaid (fieldsIn t)) h (said (fieldsIn t) says refl)
       ∙ ap (λ (v : Verdict). boardedBy v (boardIn t)) (gate-judged (boardIn t) gate)
 
+  pub on-text : (P : RetractableBoard → Type 0) → P (boardIn t) → OnText t P
+  unfolding OnText
+  on-text P h b r = subst (λ (x : Boarded). (x .verdict ≡ Accepted) × P (x .board)) (sym (read-is b r)) (refl, h)
+
   strict-of : (P : List ChessRetraction → Type 0) → ((l : List ChessRetraction) → IsStrictList (boardIn t) l → P l) → StrictOf t P
-  strict-of P g b h =
-      subst (λ (y : Boarded). (y .verdict ≡ Accepted) × ((s after : List ℕ) (a : Listed) (x : Lists (y .board) s a after) → P (x .moves))) (sym (read-is b h))
-      (refl, λ s after a x. g (x .moves) (x .exact gate))
+  strict-of P g = on-text _ λ s after a x. g (x .moves) (x .exact gate)
 
   pub is-strict : (r : ChessRetraction) → strict (posOn (boardIn t)) r ≡ true → StrictOf t (λ l. Among r l)
   is-strict r e = strict-of _ λ l z. z .members r .1 (strict-past (boardIn t) gate r .0 e)

@@ -15,6 +15,7 @@ use Rattle.laws.specs.Men.{Men, kindNumber}
 use Rattle.laws.specs.Souls.{number, souls}
 use Rattle.laws.specs.Retractions.{packed, unpacked, InRange}
 use Rattle.accept.specs.declared.Verdict.the-variants.{Accepted}
+use Rattle.board.specs.declared.RetractableBoard.{RetractableBoard}
 use Rattle.board.specs.declared.Boarded.{Boarded}
 use Rattle.listing.specs.declared.Listed.{Listed}
 use Rattle.strict.specs.Demand.{Among, Lists}
@@ -32,11 +33,13 @@ pub data Line : Type 0 where
   -- a retraction, and the slot that it packs to
   packs : ChessRetraction → ℕ → Line
 
--- `read` accepts the text t, and whatever `strict_into` may answer on the board that was read, P holds of its list
+-- `read` accepts the text t, and P holds of its board
+unfoldable pub OnText : String → (RetractableBoard → Type 0) → Type 0
+OnText t P = (b : Boarded) → Reads (bytes t) b → (b .verdict ≡ Accepted) × P (b .board)
+
+-- whatever `strict_into` may answer on the text's board, P holds of its list
 abbrev pub StrictOf : String → (List ChessRetraction → Type 0) → Type 0
-StrictOf t P =
-    (b : Boarded) → Reads (bytes t) b
-    → (b .verdict ≡ Accepted) × ((s after : List ℕ) (a : Listed) (x : Lists (b .board) s a after) → P (x .moves))
+StrictOf t P = OnText t (λ b. (s after : List ℕ) (a : Listed) (x : Lists b s a after) → P (x .moves))
 
 -- so many pawns, knights and queens, and nothing else
 abbrev pub men : ℕ → ℕ → ℕ → Piece → ℕ
