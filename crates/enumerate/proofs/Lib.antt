@@ -1,3 +1,2 @@
 pub mod Ranks
-pub mod Computed
 pub mod Sources

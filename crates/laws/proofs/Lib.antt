@@ -17,6 +17,5 @@ pub mod Passes
 pub mod Demand3
 pub mod StrictMembers
 pub mod BoardPasts
-pub mod Daggers
 pub mod Packing
 pub mod Onwards

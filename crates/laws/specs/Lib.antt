@@ -9,4 +9,3 @@ pub mod Unmaking
 pub mod Strictness
 pub mod StrictLists
 pub mod Boards
-pub mod Table

@@ -2,4 +2,3 @@ pub mod Skipping
 pub mod Remaining
 pub mod Unique
 pub mod Told
-pub mod Daggers

@@ -1,0 +1,4 @@
+pub mod Texts
+pub mod Alone
+pub mod Daggers
+pub mod Computed
