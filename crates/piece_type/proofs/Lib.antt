@@ -1,0 +1,4 @@
+pub mod Sets
+pub mod Adding
+pub mod Scenes
+pub mod Officers
