@@ -26,19 +26,15 @@ use Rattle.officers.specs.Officers.{movesOf, menOf, stepsOf, quietOf, freeOf, f
 use Rattle.squares.proofs.Comprehension.{upTo-lt}
 use Rattle.squares.proofs.Members.{first-lt}
 use Rattle.squares.proofs.Testing.{and-true, and-false}
-use Rattle.laws.proofs.Mans.{opp-opp}
 use Rattle.piece_type.specs.Bitboards.{_&_, !_, _==_, _!=_, if_then_else_, EMPTY, fromSquare}
-use Rattle.piece_type.specs.Boards.{piecesOf, colorCombined, rightsAt, kingSquare}
+use Rattle.piece_type.specs.Boards.{piecesOf, colorCombined, rightsAt}
 use Rattle.piece_type.specs.Statements.{Run, _>>_, push, when, for}
 use Rattle.piece_type.specs.PieceTypes.{PieceType, CheckType, NotInCheck, InSimpleCheck, InDoubleCheck, nbCheckers, KnightType, BishopType, RookType, QueenType}
 use Rattle.piece_type.specs.Knights as knights
 use Rattle.piece_type.specs.Sliders as sliders
 use Rattle.piece_type.proofs.Sets.{and-assoc, and-all}
 use Rattle.piece_type.proofs.Adding.{Adds, adds-same, adds-then, adds-before, adds-when, adds-unless, adds-never, offer, adds-offer, adds-for}
-use Rattle.piece_type.proofs.Scenes.{sceneAt, kind-is, lastRook, rooks-are}
-
-abbrev maskOf : Board → ℕ
-maskOf b = compl (colorSet (b .colors) (b .turn))
+use Rattle.piece_type.proofs.Scenes.{sceneAt, maskOf, oppKsqOf, king-is, kind-is, lastRook, rooks-are}
 
 moves-lt : (k sq occ : ℕ) → movesOf k sq occ < 2 ^ 64
 unfolding movesOf
@@ -55,19 +51,15 @@ module _ (b : Board) where
   s = sceneAt b
 
   abbrev oppKsq : ℕ
-  oppKsq = kingSquare b (opp (opp (b .turn)))
+  oppKsq = oppKsqOf b
 
   abbrev captures : ℕ → UnCaptureKind
   captures src = if fromSquare src & b .pinned != EMPTY then Necessary else Optional
 
-  king-is : oppKsq ≡ s .oppking
-  unfolding sceneOf within
-  king-is = ap (kingSquare b) (opp-opp (b .turn))
-
   -- `!check_mask`
   quiet-is : (k occ : ℕ) → compl (bitAnd (movesOf k oppKsq occ) (compl 0)) ≡ quietOf s k occ
   unfolding quietOf
-  quiet-is k occ = ap compl (and-all _ (moves-lt k oppKsq occ) ∙ ap (λ (x : ℕ). movesOf k x occ) king-is)
+  quiet-is k occ = ap compl (and-all _ (moves-lt k oppKsq occ) ∙ ap (λ (x : ℕ). movesOf k x occ) (king-is b))
 
   -- a loop over the men
   each-adds : (k allowed : ℕ) {set set′ : ℕ} (f : ℕ → ℕ) → set ≡ set′ → ((src : ℕ) → f src ≡ bitAnd (stepsOf s k src) allowed)
@@ -93,12 +85,12 @@ module _ (b : Board) where
   unfolding ontoOf freeOf sceneOf _and_
   onto-knights =
       adds-when (eqb (bitAnd (b .checkers) men) 0)
-      (each-adds 1 (rayOf s) _ refl (λ src. ap (λ (x : ℕ). bitAnd (stepsOf s 1 src) (betweenOf (firstOf (b .checkers)) x)) king-is))
+      (each-adds 1 (rayOf s) _ refl (λ src. ap (λ (x : ℕ). bitAnd (stepsOf s 1 src) (betweenOf (firstOf (b .checkers)) x)) (king-is b)))
 
   both-knights : (src other : ℕ) → Adds (offer src (bitAnd (bitAnd (betweenOf other oppKsq) (stepsOf s 1 src)) (compl (bitAnd (movesOf 1 oppKsq (b .combined)) (compl 0)))) Optional false) (bothAt s 1 src other)
   unfolding bothAt captureKind sceneOf
   both-knights src other =
-      adds-offer src false (ap₂ (λ (x y : ℕ). bitAnd (bitAnd (betweenOf other x) (stepsOf s 1 src)) y) king-is (quiet-is 1 (b .combined)))
+      adds-offer src false (ap₂ (λ (x y : ℕ). bitAnd (bitAnd (betweenOf other x) (stepsOf s 1 src)) y) (king-is b) (quiet-is 1 (b .combined)))
       (ap captureKind (sym (and-false (has (b .pinned) src))))
 
 pub knight-adds : (T : CheckType) (b : Board) → Adds (knights.legals T b (maskOf b)) (officerOf (sceneAt b) (nbCheckers T) (kindPlace Knight))

@@ -7,19 +7,34 @@ use lib.Bits.{bitAnd, bitXor, xor-zero-l, xor-zero-r}
 use Rattle.squares.specs.Squares.{has, only}
 use Rattle.geometry.specs.declared.Color.{Color}
 use Rattle.geometry.specs.declared.Color.the-variants.{White, Black}
+use Rattle.geometry.specs.Colors.{opp}
 use Rattle.laws.specs.Boards.{Board}
 use Rattle.laws.specs.Positions.{short, long, corner}
 use Rattle.roll.specs.declared.UnCaptureKind.{UnCaptureKind}
 use Rattle.roll.specs.declared.UnCaptureKind.the-variants.{Optional, Necessary}
 use Rattle.roll.specs.Roll.{captureKind}
 use Rattle.scene.specs.declared.Scene.{Scene}
-use Rattle.scene.specs.Scenes.{castlingRooks, sceneOf}
+use Rattle.scene.specs.Scenes.{castlingRooks, within, sceneOf}
 use Rattle.piece_type.specs.Bitboards.{_&_, !_, _⊻_, _!=_, if_then_else_, EMPTY, fromSquare}
 use Rattle.piece_type.specs.Squares.{toMyBackrank, makeSquare}
+use Rattle.piece_type.specs.Boards.{colorCombined, kingSquare}
+use Rattle.laws.proofs.Mans.{opp-opp}
 use Rattle.piece_type.proofs.Sets.{meets-none}
 
 abbrev pub sceneAt : Board → Scene
 sceneAt b = sceneOf (b .pieces) (b .colors) (b .combined) (b .turn) (b .white) (b .black) (b .pinned) (b .checkers) (b .passant)
+
+-- `mask`
+abbrev pub maskOf : Board → ℕ
+maskOf b = ! colorCombined b (b .turn)
+
+-- `opp_ksq`
+abbrev pub oppKsqOf : Board → ℕ
+oppKsqOf b = kingSquare b (opp (opp (b .turn)))
+
+pub king-is : (b : Board) → oppKsqOf b ≡ sceneAt b .oppking
+unfolding sceneOf within
+king-is b = ap (kingSquare b) (opp-opp (b .turn))
 
 -- `BitBoard::from_square(k) & s != EMPTY`
 pub meets-some : (k s : ℕ) → k < 64 → (fromSquare k & s != EMPTY) ≡ has s k

@@ -6,7 +6,7 @@ use native.Mathlib.Nat.{lt-of-le-of-lt, zero-lt-suc, two-pow-succ, mod-eq-of-lt}
 use native.Mathlib.Omega.{arith}
 use lib.Dec.{eqb}
 use lib.Pow.{pow-pos}
-use lib.Bits.{bitAnd, bitOr, and-le-l, and-mask}
+use lib.Bits.{bitAnd, bitOr, and-le-l, and-le-r, and-mask, or-lt}
 use borrow.Author.Tests.{eq-eqb, ne-eqb, eqb-true}
 use Rattle.squares.specs.Tests.{_and_, _or_}
 use Rattle.squares.specs.Squares.{has, only}
@@ -32,6 +32,44 @@ and-assoc a b c =
     (lt-of-le-of-lt (and-le-l a (bitAnd b c)) (fits a))
     (λ k l. has-and (bitAnd a b) c k ∙ ap (λ (t : Bool). t and has c k) (has-and a b k) ∙ and-group (has a k) (has b k) (has c k)
     ∙ sym (has-and a (bitAnd b c) k ∙ ap (λ (t : Bool). has a k and t) (has-and b c k)))
+
+or-group : (a b c : Bool) → ((a or b) or c) ≡ (a or (b or c))
+unfolding _or_
+or-group true b c = refl
+or-group false b c = refl
+
+pub or-assoc : (a b c : ℕ) → bitOr (bitOr a b) c ≡ bitOr a (bitOr b c)
+or-assoc a b c =
+    ext n (bitOr (bitOr a b) c) (bitOr a (bitOr b c)) (or-lt n (bitOr a b) c (or-lt n a b ha hb) hc) (or-lt n a (bitOr b c) ha (or-lt n b c hb hc))
+    (λ k l. has-or (bitOr a b) c k ∙ ap (λ (t : Bool). t or has c k) (has-or a b k) ∙ or-group (has a k) (has b k) (has c k)
+    ∙ sym (has-or a (bitOr b c) k ∙ ap (λ (t : Bool). has a k or t) (has-or b c k)))
+  where
+    n : ℕ
+    n = a + b + c
+
+    ha : a < 2 ^ n
+    ha = omega (arith, fits n)
+
+    hb : b < 2 ^ n
+    hb = omega (arith, fits n)
+
+    hc : c < 2 ^ n
+    hc = omega (arith, fits n)
+
+over-or : (a b c : Bool) → ((a or b) and c) ≡ ((a and c) or (b and c))
+unfolding _and_ _or_
+over-or true true true = refl
+over-or true true false = refl
+over-or true false true = refl
+over-or true false false = refl
+over-or false b c = refl
+
+pub and-or : (a b c : ℕ) → bitAnd (bitOr a b) c ≡ bitOr (bitAnd a c) (bitAnd b c)
+and-or a b c =
+    ext c (bitAnd (bitOr a b) c) (bitOr (bitAnd a c) (bitAnd b c)) (lt-of-le-of-lt (and-le-r (bitOr a b) c) (fits c))
+    (or-lt c (bitAnd a c) (bitAnd b c) (lt-of-le-of-lt (and-le-r a c) (fits c)) (lt-of-le-of-lt (and-le-r b c) (fits c)))
+    (λ k l. has-and (bitOr a b) c k ∙ ap (λ (t : Bool). t and has c k) (has-or a b k) ∙ over-or (has a k) (has b k) (has c k)
+    ∙ sym (has-or (bitAnd a c) (bitAnd b c) k ∙ ap₂ _or_ (has-and a c k) (has-and b c k)))
 
 -- `s & !EMPTY`
 pub and-all : (s : ℕ) → s < 2 ^ 64 → bitAnd s allSquares ≡ s
