@@ -6,3 +6,4 @@ pub mod Pawns
 pub mod Attacked
 pub mod Castling
 pub mod Kings
+pub mod Lists

@@ -27,3 +27,7 @@ when t block movelist = cond t (block movelist) movelist
 -- `for src in set { block }`
 unfoldable pub for : ℕ → (ℕ → Run) → Run
 for set block movelist = forEach (λ l src. block src l) movelist (members set)
+
+-- `let mut retraction_list = ..::new();`, and the list after the statements
+unfoldable pub fromNew : Run → List SourceAndTargets
+fromNew run = run []
