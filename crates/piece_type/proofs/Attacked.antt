@@ -1,0 +1,39 @@
+-- `is_attacked` asks what `attackedOf` asks.
+use mathlib.Core.Path.{_≡_, refl, ap, ap₂, _∙_}
+use mathlib.Core.Bool.{Bool, not}
+use Prim.Native.Nat.{ℕ}
+use lib.Dec.{eqb}
+use lib.Bits.{bitAnd, bitOr, or-zero-l}
+use Rattle.geometry.specs.Colors.{opp}
+use Rattle.laws.specs.declared.Piece.the-variants.{Pawn, Knight, Bishop, Rook, Queen, King}
+use Rattle.laws.specs.Boards.{Board}
+use Rattle.scene.specs.Chess.{knightMoves, kingMoves, bishopMoves, rookMoves}
+use Rattle.scene.specs.Scenes.{within, sceneOf}
+use Rattle.kings.specs.Kings.{farOf, nearOf, attackedOf}
+use Rattle.piece_type.specs.Bitboards.{_&_, _¦_, _!=_, EMPTY}
+use Rattle.piece_type.specs.Squares.{getPawnAttacks}
+use Rattle.piece_type.specs.Boards.{piecesOf, colorCombined, isAttacked}
+use Rattle.piece_type.proofs.Sets.{and-assoc, and-or, or-assoc}
+use Rattle.piece_type.proofs.Scenes.{sceneAt}
+
+-- `moves & (p | q) & set`
+share : (moves p q set : ℕ) → moves & (p ¦ q) & set ≡ moves & (p & set ¦ q & set)
+share moves p q set = and-assoc moves (p ¦ q) set ∙ ap (bitAnd moves) (and-or p q set)
+
+-- five sets united one after the other
+five : (a b c d e : ℕ) → EMPTY ¦ a ¦ b ¦ c ¦ d ¦ e ≡ a ¦ b ¦ (c ¦ d ¦ e)
+five a b c d e =
+    ap (λ (x : ℕ). x ¦ b ¦ c ¦ d ¦ e) (or-zero-l a) ∙ ap (λ (x : ℕ). x ¦ e) (or-assoc (a ¦ b) c d) ∙ or-assoc (a ¦ b) (c ¦ d) e
+
+pub attacked-is : (b : Board) (sq : ℕ) → isAttacked b sq (b .turn) ≡ attackedOf (sceneAt b) sq
+unfolding isAttacked attackedOf farOf nearOf within sceneOf
+attacked-is b sq =
+    let set = colorCombined b (b .turn) in
+    let rooks = rookMoves sq (b .combined) & (piecesOf b Rook ¦ piecesOf b Queen) & set in
+    let bishops = bishopMoves sq (b .combined) & (piecesOf b Bishop ¦ piecesOf b Queen) & set in
+    let knights = knightMoves sq & piecesOf b Knight & set in
+    let kings = kingMoves sq & piecesOf b King & set in
+    let pawns = getPawnAttacks sq (opp (b .turn)) (piecesOf b Pawn & set) in
+    ap (λ (x : ℕ). x != EMPTY) (five rooks bishops knights kings pawns)
+    ∙ ap₂ (λ (r s : ℕ). r ¦ s ¦ (knights ¦ kings ¦ pawns) != EMPTY) (share (rookMoves sq (b .combined)) (piecesOf b Rook) (piecesOf b Queen) set) (share (bishopMoves sq (b .combined)) (piecesOf b Bishop) (piecesOf b Queen) set)
+    ∙ ap₂ (λ (n k : ℕ). rookMoves sq (b .combined) & (piecesOf b Rook & set ¦ piecesOf b Queen & set) ¦ bishopMoves sq (b .combined) & (piecesOf b Bishop & set ¦ piecesOf b Queen & set) ¦ (n ¦ k ¦ pawns) != EMPTY) (and-assoc (knightMoves sq) (piecesOf b Knight) set) (and-assoc (kingMoves sq) (piecesOf b King) set)

@@ -1,0 +1,185 @@
+-- The pawn's `legals` adds what `pawnOf` lists.
+use mathlib.Core.Path.{_≡_, refl, sym, ap, ap₂, _∙_}
+use mathlib.Core.Bool.{Bool, true, false, not, cond}
+use mathlib.Core.List.{List, [], _∷_, _++_}
+use Prim.Native.Nat.{ℕ, _<_, _^_}
+use native.Mathlib.Omega.{arith}
+use lib.Dec.{eqb, leb}
+use lib.Bits.{bitAnd, bitOr}
+use Rattle.squares.specs.Tests.{_and_, _or_}
+use Rattle.squares.specs.Squares.{rank, has, only}
+use Rattle.squares.specs.Members.{compl, firstOf, members, forEach, concat}
+use Rattle.geometry.specs.declared.Color.{Color}
+use Rattle.geometry.specs.declared.Color.the-variants.{White, Black}
+use Rattle.geometry.specs.Colors.{opp}
+use Rattle.geometry.specs.Lines.{betweenOf}
+use Rattle.laws.specs.declared.EnPassantFlag.{EnPassantFlag}
+use Rattle.laws.specs.declared.EnPassantFlag.the-variants.{Any, Some, None}
+use Rattle.laws.specs.declared.Piece.the-variants.{Pawn}
+use Rattle.laws.specs.Boards.{Board}
+use Rattle.roll.specs.declared.SourceAndTargets.{SourceAndTargets}
+use Rattle.roll.specs.declared.UnCaptureKind.the-variants.{Necessary, Forbidden, UnEnPassant}
+use Rattle.scene.specs.declared.Scene.{Scene}
+use Rattle.scene.specs.Chess.{rankSet, ownRank, adjacentFiles, backOf, pawnAttacks, lineOf}
+use Rattle.scene.specs.Scenes.{within, sceneOf}
+use Rattle.pawns.specs.Pawns.{pawnsOf, checkMask, firstRank, candidateRetractors, otherRayOf, allowsOf, capturersOf, doubledOf, crossedOf, vacantOf, homeOf, unpushOf, uncaptureOf, promotedOf, fromOf, stepsOf}
+use Rattle.passants.specs.Passants.{besidePlain, besideReborn, underOne, raysOf, oneOfTwo, twoOthers, underTwo, underOf, passantAt, passantOf, passantRank, pawnOf}
+use Rattle.squares.proofs.Comprehension.{upTo-lt}
+use Rattle.piece_type.specs.Bitboards.{_&_, !_, _¦_, _==_, _!=_, if_then_else_, EMPTY, fromSquare, toSquare}
+use Rattle.piece_type.specs.Squares.{getPawnAttacks}
+use Rattle.piece_type.specs.Boards.{piecesOf, colorCombined}
+use Rattle.piece_type.specs.Statements.{Run, _>>_, skip, for}
+use Rattle.piece_type.specs.PieceTypes.{CheckType, NotInCheck, InSimpleCheck, InDoubleCheck, nbCheckers}
+use Rattle.piece_type.specs.Pawns.{pushUnseen, epRankOf, unchecking, legals}
+use Rattle.piece_type.proofs.Sets.{and-assoc, and-all, meets-none}
+use Rattle.piece_type.proofs.Adding.{Adds, adds-same, adds-then, adds-skip, adds-if, offer, adds-offer, adds-for}
+use Rattle.piece_type.proofs.Scenes.{sceneAt, maskOf, oppKsqOf, king-is, meets-some}
+
+back-lt : (c : Color) (sq : ℕ) → backOf c sq < 64
+unfolding backOf
+back-lt White sq = omega arith
+back-lt Black sq = omega arith
+
+unseen-is : (e : EnPassantFlag) (t : Bool) → pushUnseen e t ≡ allowsOf e t
+unseen-is Any t = refl
+unseen-is (Some sq) t = refl
+unseen-is None t = refl
+
+rank-is : (c : Color) → epRankOf c ≡ rankSet (ownRank c 5)
+rank-is White = refl
+rank-is Black = refl
+
+-- a test within a test
+within-test : {A : Type 0} (t u : Bool) (x y : A) → cond t (cond u x y) y ≡ cond (t and u) x y
+unfolding _and_
+within-test true u x y = refl
+within-test false u x y = refl
+
+cond-not : {A : Type 0} (t : Bool) (x y : A) → cond (not t) x y ≡ cond t y x
+cond-not true x y = refl
+cond-not false x y = refl
+
+and-first : (a b c d e f : ℕ) → a & b & c & d & e & f ≡ a & (b & c & d & e & f)
+and-first a b c d e f =
+    ap (λ (x : ℕ). x & d & e & f) (and-assoc a b c) ∙ ap (λ (x : ℕ). x & e & f) (and-assoc a (b & c) d)
+    ∙ ap (λ (x : ℕ). x & f) (and-assoc a (b & c & d) e) ∙ and-assoc a (b & c & d & e) f
+
+-- 308 to 333
+unchecked : (T : CheckType) (s : Scene) (src reborn targets : ℕ) → src < 64 → reborn < 64
+    → unchecking T (s .checkers) (s .oppking) src reborn targets ≡ underOf s (nbCheckers T) src reborn targets
+unfolding unchecking underOf underOne underTwo oneOfTwo twoOthers raysOf _and_
+unchecked NotInCheck s src reborn targets h g = refl
+unchecked InSimpleCheck s src reborn targets h g =
+    let ray = betweenOf (firstOf (s .checkers)) (s .oppking) in
+    ap (λ (t : Bool). cond (not (eqb (firstOf (s .checkers)) src)) (cond t (bitAnd targets ray) targets) targets) (meets-none reborn ray g)
+    ∙ within-test (not (eqb (firstOf (s .checkers)) src)) (not (has ray reborn)) (bitAnd targets ray) targets
+unchecked InDoubleCheck s src reborn targets h g =
+    let ray = betweenOf (firstOf (bitAnd (s .checkers) (compl (only src)))) (s .oppking) in
+    let rays = raysOf (s .oppking) (s .checkers) in
+    ap (λ (t : Bool). cond t (cond (fromSquare reborn & ray != EMPTY) (bitAnd targets ray) targets) (bitAnd (cond (fromSquare reborn & rays == EMPTY) 0 targets) rays)) (meets-some src (s .checkers) h)
+    ∙ ap₂ (λ (t u : Bool). cond (has (s .checkers) src) (cond t (bitAnd targets ray) targets) (bitAnd (cond u 0 targets) rays)) (meets-some reborn ray g) (meets-none reborn rays g)
+    ∙ ap (λ (x : ℕ). cond (has (s .checkers) src) (cond (has ray reborn) (bitAnd targets ray) targets) (bitAnd x rays)) (cond-not (has rays reborn) 0 targets)
+
+module _ (b : Board) (T : CheckType) where
+  abbrev s : Scene
+  s = sceneAt b
+
+  abbrev n : ℕ
+  n = nbCheckers T
+
+  abbrev c : Color
+  c = opp (b .turn)
+
+  abbrev oppKsq : ℕ
+  oppKsq = oppKsqOf b
+
+  -- `check_mask`
+  abbrev mask : ℕ
+  mask = getPawnAttacks oppKsq (opp c) (! EMPTY)
+
+  mask-is : mask ≡ checkMask s
+  unfolding sceneOf
+  mask-is = and-all _ (upTo-lt 64 _) ∙ ap (pawnAttacks (opp c)) (king-is b)
+
+  abbrev ray : ℕ → ℕ
+  ray src = if n == 0 or (n == 1 and toSquare (b .checkers) == src) then ! EMPTY else betweenOf (toSquare (b .checkers & ! fromSquare src)) oppKsq
+
+  ray-is : (src : ℕ) → ray src ≡ otherRayOf s n src
+  unfolding otherRayOf sceneOf
+  ray-is src = ap (λ (x : ℕ). cond (eqb n 0 or (eqb n 1 and eqb (firstOf (b .checkers)) src)) (! EMPTY) (betweenOf (firstOf (b .checkers & ! fromSquare src)) x)) (king-is b)
+
+  abbrev home : ℕ → ℕ
+  home src = ! b .combined & ! mask & ! firstRank s & ray src & s .mask
+
+  home-is : (src : ℕ) → home src ≡ homeOf s (otherRayOf s n src)
+  unfolding homeOf vacantOf sceneOf
+  home-is src = ap₂ (λ (m r : ℕ). ! b .combined & ! m & ! firstRank s & r & s .mask) mask-is (ray-is src)
+
+  abbrev crossing : ℕ → ℕ → ℕ
+  crossing src crossed =
+      if rank src == ownRank c 3 and pushUnseen (b .passant) (capturersOf src & s .rivals == EMPTY) and fromSquare crossed & b .combined == EMPTY
+      then fromSquare crossed ¦ fromSquare (backOf c crossed) else fromSquare crossed
+
+  crossing-is : (src crossed : ℕ) → crossed < 64 → crossing src crossed ≡ crossedOf s src crossed
+  unfolding crossedOf doubledOf sceneOf
+  crossing-is src crossed h =
+      ap₂ (λ (t u : Bool). cond (rank src == ownRank c 3 and t and u) (fromSquare crossed ¦ fromSquare (backOf c crossed)) (fromSquare crossed))
+      (unseen-is (b .passant) (capturersOf src & s .rivals == EMPTY)) (meets-none crossed (b .combined) h)
+
+  abbrev unpush : ℕ → ℕ
+  unpush src =
+      if fromSquare src & b .pinned != EMPTY then crossing src (backOf c src) & home src & lineOf src oppKsq else crossing src (backOf c src) & home src
+
+  unpush-is : (src : ℕ) → src < 64 → unpush src ≡ unpushOf s (otherRayOf s n src) src
+  unfolding unpushOf sceneOf
+  unpush-is src h =
+      ap (λ (t : Bool). cond t (crossing src (backOf c src) & home src & lineOf src oppKsq) (crossing src (backOf c src) & home src)) (meets-some src (b .pinned) h)
+      ∙ ap₂ (λ (x k : ℕ). cond (has (b .pinned) src) (x & lineOf src k) x) (ap₂ bitAnd (crossing-is src (backOf c src) (back-lt c src)) (home-is src)) (king-is b)
+
+  uncapture-is : (src : ℕ) → getPawnAttacks src (opp c) (! b .combined) & ! mask & ! firstRank s & ray src & s .mask ≡ uncaptureOf s (otherRayOf s n src) src
+  unfolding uncaptureOf sceneOf
+  uncapture-is src =
+      and-first (pawnAttacks (opp c) src) (! b .combined) (! mask) (! firstRank s) (ray src) (s .mask) ∙ ap (bitAnd (pawnAttacks (opp c) src)) (home-is src)
+
+  steps-add : Adds (for (candidateRetractors s n) (λ src. offer src (unpush src) Forbidden (promotedOf s src) >> offer src (getPawnAttacks src (opp c) (! b .combined) & ! mask & ! firstRank s & ray src & s .mask) Necessary (promotedOf s src))) (stepsOf s n)
+  unfolding stepsOf fromOf
+  steps-add = adds-for _ (fromOf s n) (λ src h. adds-then (adds-offer src _ (unpush-is src h) refl) (adds-offer src _ (uncapture-is src) refl)) (candidateRetractors s n)
+
+  -- 297 to 301, and to 306
+  abbrev beside : ℕ → ℕ → ℕ
+  beside src reborn = adjacentFiles src & rankSet (rank reborn) & ! b .combined & ! mask & s .mask
+
+  beside-is : (src reborn : ℕ) → beside src reborn ≡ besidePlain s src reborn
+  unfolding vacantOf sceneOf
+  beside-is src reborn =
+      ap (λ (x : ℕ). x & s .mask) (and-assoc (adjacentFiles src & rankSet (rank reborn)) (! b .combined) (! mask))
+      ∙ ap (λ (m : ℕ). adjacentFiles src & rankSet (rank reborn) & (! b .combined & ! m) & s .mask) mask-is
+
+  abbrev lined : ℕ → ℕ → ℕ
+  lined src reborn =
+      if fromSquare src & b .pinned != EMPTY and fromSquare reborn & lineOf src oppKsq == EMPTY then beside src reborn & lineOf src oppKsq else beside src reborn
+
+  lined-is : (src reborn : ℕ) → src < 64 → reborn < 64 → lined src reborn ≡ besideReborn s src reborn
+  unfolding besideReborn sceneOf
+  lined-is src reborn h g =
+      ap₂ (λ (t u : Bool). cond (t and u) (beside src reborn & lineOf src oppKsq) (beside src reborn)) (meets-some src (b .pinned) h) (meets-none reborn (lineOf src oppKsq) g)
+      ∙ ap₂ (λ (x k : ℕ). cond (has (b .pinned) src and not (has (lineOf src k) reborn)) (x & lineOf src k) x) (beside-is src reborn) (king-is b)
+
+  passant-adds : (src : ℕ) → src < 64
+      → Adds (if fromSquare (backOf (opp c) src) & b .combined != EMPTY or fromSquare (backOf c src) & b .combined != EMPTY then skip
+      else offer src (unchecking T (b .checkers) oppKsq src (backOf c src) (lined src (backOf c src))) UnEnPassant false) (passantOf s n src)
+  unfolding passantOf passantAt sceneOf
+  passant-adds src h =
+      adds-same
+      (adds-if (fromSquare (backOf (opp c) src) & b .combined != EMPTY or fromSquare (backOf c src) & b .combined != EMPTY) adds-skip
+      (adds-offer src false
+      (ap₂ (λ (k x : ℕ). unchecking T (b .checkers) k src (backOf c src) x) (king-is b) (lined-is src (backOf c src) h (back-lt c src))
+      ∙ unchecked T s src (backOf c src) (besideReborn s src (backOf c src)) h (back-lt c src)) refl))
+      (ap₂ (λ (t u : Bool). cond (t or u) [] (passantAt s n src (backOf c src))) (meets-some (backOf (opp c) src) (b .combined) (back-lt (opp c) src)) (meets-some (backOf c src) (b .combined) (back-lt c src)))
+
+pub pawn-adds : (T : CheckType) (b : Board) → Adds (legals T b (maskOf b)) (pawnOf (sceneAt b) (nbCheckers T))
+unfolding legals pawnOf candidateRetractors within sceneOf
+pawn-adds T b =
+    adds-then (steps-add b T)
+    (adds-same (adds-for _ (passantOf (sceneAt b) (nbCheckers T)) (passant-adds b T) _)
+    (ap (λ (x : ℕ). concat (passantOf (sceneAt b) (nbCheckers T)) (members (x & pawnsOf (sceneAt b)))) (rank-is (opp (b .turn)))))

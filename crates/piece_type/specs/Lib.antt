@@ -1,0 +1,10 @@
+pub mod Bitboards
+pub mod Squares
+pub mod Boards
+pub mod Statements
+pub mod PieceTypes
+pub mod Sliders
+pub mod Pawns
+pub mod Knights
+pub mod Kings
+pub mod Lists
