@@ -1,9 +1,7 @@
 -- `is_attacked` asks what `attackedOf` asks.
-use mathlib.Core.Path.{_≡_, refl, ap, ap₂, _∙_}
-use mathlib.Core.Bool.{Bool, not}
+use mathlib.Core.Path.{_≡_, ap, ap₂, _∙_}
 use Prim.Native.Nat.{ℕ}
-use lib.Dec.{eqb}
-use lib.Bits.{bitAnd, bitOr, or-zero-l}
+use lib.Bits.{or-zero-l}
 use Rattle.geometry.specs.Colors.{opp}
 use Rattle.laws.specs.declared.Piece.the-variants.{Pawn, Knight, Bishop, Rook, Queen, King}
 use Rattle.laws.specs.Boards.{Board}
@@ -18,7 +16,7 @@ use Rattle.piece_type.proofs.Scenes.{sceneAt}
 
 -- `moves & (p | q) & set`
 share : (moves p q set : ℕ) → moves & (p ¦ q) & set ≡ moves & (p & set ¦ q & set)
-share moves p q set = and-assoc moves (p ¦ q) set ∙ ap (bitAnd moves) (and-or p q set)
+share moves p q set = and-assoc moves (p ¦ q) set ∙ ap (_&_ moves) (and-or p q set)
 
 -- five sets united one after the other
 five : (a b c d e : ℕ) → EMPTY ¦ a ¦ b ¦ c ¦ d ¦ e ≡ a ¦ b ¦ (c ¦ d ¦ e)
@@ -34,6 +32,9 @@ attacked-is b sq =
     let knights = knightMoves sq & piecesOf b Knight & set in
     let kings = kingMoves sq & piecesOf b King & set in
     let pawns = getPawnAttacks sq (opp (b .turn)) (piecesOf b Pawn & set) in
-    ap (λ (x : ℕ). x != EMPTY) (five rooks bishops knights kings pawns)
-    ∙ ap₂ (λ (r s : ℕ). r ¦ s ¦ (knights ¦ kings ¦ pawns) != EMPTY) (share (rookMoves sq (b .combined)) (piecesOf b Rook) (piecesOf b Queen) set) (share (bishopMoves sq (b .combined)) (piecesOf b Bishop) (piecesOf b Queen) set)
-    ∙ ap₂ (λ (n k : ℕ). rookMoves sq (b .combined) & (piecesOf b Rook & set ¦ piecesOf b Queen & set) ¦ bishopMoves sq (b .combined) & (piecesOf b Bishop & set ¦ piecesOf b Queen & set) ¦ (n ¦ k ¦ pawns) != EMPTY) (and-assoc (knightMoves sq) (piecesOf b Knight) set) (and-assoc (kingMoves sq) (piecesOf b King) set)
+    ap (λ (x : ℕ). x != EMPTY)
+    (five rooks bishops knights kings pawns
+    ∙ ap₂ _¦_
+    (ap₂ _¦_ (share (rookMoves sq (b .combined)) (piecesOf b Rook) (piecesOf b Queen) set)
+    (share (bishopMoves sq (b .combined)) (piecesOf b Bishop) (piecesOf b Queen) set))
+    (ap (λ (x : ℕ). x ¦ pawns) (ap₂ _¦_ (and-assoc (knightMoves sq) (piecesOf b Knight) set) (and-assoc (kingMoves sq) (piecesOf b King) set))))

@@ -1,13 +1,13 @@
 -- The two tests of un-castling, over whatever they ask of squares: the Rust's, of the squares beside the king, and ours, of the squares by name.
 use mathlib.Core.Path.{_≡_, refl, sym, ap, ap₂, _∙_, subst}
-use mathlib.Core.Bool.{Bool, true, false, cond, true≢false}
+use mathlib.Core.Bool.{Bool, true, false, cond}
 use mathlib.Core.List.{List, [], _∷_}
-use Prim.Native.Nat.{ℕ, _+_, _/_, _%_, _<_}
+use Prim.Native.Nat.{ℕ, _+_}
 use native.Mathlib.Omega.{arith}
 use lib.Dec.{eqb}
 use borrow.Author.Tests.{eqb-true, eqb-false, ne-eqb}
 use Rattle.squares.specs.Tests.{_and_, _or_}
-use Rattle.squares.specs.Squares.{file, rank, only}
+use Rattle.squares.specs.Squares.{file, rank}
 use Rattle.geometry.specs.declared.Color.{Color}
 use Rattle.geometry.specs.declared.Color.the-variants.{White, Black}
 use Rattle.geometry.specs.Colors.{homeSquare}
@@ -74,11 +74,16 @@ long-law r e d k v w f z =
     (by-cases 8 (λ r e d k v w f z. agree (r and e and d and k and v and w and f and z) (d and (r and e and k and (v and w) and f and z))) refl r e d k v w f z)
 
 module _ (t : Asked) where
-  as-short : (q r e k : ℕ) → cond (t .rook r and t .bare e and t .bare k and t .safe r and t .safe e and t .far k and t .lone r) (entry q e) [] ≡ cond (castled t r e k or false) (entry q e) []
-  as-short q r e k = ap (λ (x : Bool). cond x (entry q e) []) (short-law (t .rook r) (t .bare e) (t .bare k) (t .safe r) (t .safe e) (t .far k) (t .lone r))
+  as-short : (q r e k : ℕ)
+      → cond (t .rook r and t .bare e and t .bare k and t .safe r and t .safe e and t .far k and t .lone r) (entry q e) [] ≡ cond (castled t r e k or false) (entry q e) []
+  as-short q r e k =
+      ap (λ (x : Bool). cond x (entry q e) []) (short-law (t .rook r) (t .bare e) (t .bare k) (t .safe r) (t .safe e) (t .far k) (t .lone r))
 
-  as-long : (q r e d k : ℕ) → cond (t .rook r and t .bare e and t .bare d and t .bare k and t .safe r and t .safe e and t .far k and t .lone r) (entry q e) [] ≡ cond (t .bare d and castled t r e k) (entry q e) []
-  as-long q r e d k = ap (λ (x : Bool). cond x (entry q e) []) (long-law (t .rook r) (t .bare e) (t .bare d) (t .bare k) (t .safe r) (t .safe e) (t .far k) (t .lone r))
+  as-long : (q r e d k : ℕ)
+      → cond (t .rook r and t .bare e and t .bare d and t .bare k and t .safe r and t .safe e and t .far k and t .lone r) (entry q e) []
+      ≡ cond (t .bare d and castled t r e k) (entry q e) []
+  as-long q r e d k =
+      ap (λ (x : Bool). cond x (entry q e) []) (long-law (t .rook r) (t .bare e) (t .bare d) (t .bare k) (t .safe r) (t .safe e) (t .far k) (t .lone r))
 
   at-short : (c : Color) → rustly t c (kingTo c short) ≡ ours t c (kingTo c short)
   unfolding _and_ _or_
@@ -101,7 +106,8 @@ module _ (t : Asked) where
     where
       none : ours t c q ≡ []
       none =
-          ap₂ (λ (u v : Bool). cond ((u and castled t (rookTo c short) (kingHome c) (corner c short)) or (v and t .bare (homeSquare c 1) and castled t (rookTo c long) (kingHome c) (corner c long))) (entry q (kingHome c)) [])
+          let rest = castled t (rookTo c long) (kingHome c) (corner c long) in
+          ap₂ (λ (u v : Bool). if u and castled t (rookTo c short) (kingHome c) (corner c short) or v and t .bare (homeSquare c 1) and rest then entry q (kingHome c) else [])
           s l
 
       go : (u : Bool) → eqb (rank q) (toMyBackrank c) ≡ u → rustly t c q ≡ []

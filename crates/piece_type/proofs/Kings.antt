@@ -1,14 +1,13 @@
 -- The king's `legals` adds what `kingOf` lists.
-use mathlib.Core.Path.{_≡_, refl, sym, ap, ap₂, _∙_}
-use mathlib.Core.Bool.{Bool, true, false, not, cond}
-use mathlib.Core.List.{List, [], _∷_, _++_}
-use Prim.Native.Nat.{ℕ, _<_, _+_, _*_, _%_}
+use mathlib.Core.Path.{_≡_, refl, ap, ap₂, _∙_}
+use mathlib.Core.Bool.{Bool, false, not, cond}
+use mathlib.Core.List.{[], _∷_, _++_}
+use Prim.Native.Nat.{ℕ, _<_}
 use native.Mathlib.Omega.{arith}
-use lib.Dec.{eqb}
-use lib.Bits.{bitAnd, and-comm}
+use lib.Bits.{and-comm}
 use Rattle.squares.specs.Tests.{_and_, _or_}
-use Rattle.squares.specs.Squares.{file, rank, has, only}
-use Rattle.squares.specs.Members.{compl, firstOf}
+use Rattle.squares.specs.Squares.{file, rank, has}
+use Rattle.squares.specs.Members.{firstOf}
 use Rattle.geometry.specs.declared.Color.{Color}
 use Rattle.geometry.specs.Colors.{opp}
 use Rattle.geometry.specs.Lines.{betweenOf}
@@ -23,20 +22,20 @@ use Rattle.roll.specs.Roll.{entryOf}
 use Rattle.scene.specs.declared.Scene.{Scene}
 use Rattle.scene.specs.Chess.{kingMoves, rookMoves}
 use Rattle.scene.specs.Scenes.{within, sceneOf}
-use Rattle.kings.specs.Kings.{attackedOf, awayOf, stepsOf, mayOf, steppedOf, safeOf, castledOf, shortOf, longOf, uncastledOf, kingOf}
+use Rattle.kings.specs.Kings.{attackedOf, stepsOf, mayOf, steppedOf, safeOf, castledOf, shortOf, longOf, uncastledOf, kingOf}
 use Rattle.squares.proofs.Members.{first-lt}
 use Rattle.laws.proofs.Mans.{opp-opp}
 use Rattle.piece_type.specs.Bitboards.{_&_, !_, _==_, _!=_, if_then_else_, EMPTY, fromSquare}
 use Rattle.piece_type.specs.Squares.{toMyBackrank, uleft, uright}
 use Rattle.piece_type.specs.Boards.{piecesOf, colorCombined, rightsAt, notNoRights, kingSquare, isAttacked}
-use Rattle.piece_type.specs.Statements.{Run, _>>_, push, when}
+use Rattle.piece_type.specs.Statements.{_>>_, push, when}
 use Rattle.piece_type.specs.PieceTypes.{CheckType, nbCheckers}
 use Rattle.piece_type.specs.Kings.{legals}
 use Rattle.piece_type.proofs.Sets.{meets-none}
 use Rattle.piece_type.proofs.Adding.{Adds, adds-same, adds-skip, adds-then, adds-push, adds-when, adds-if, offer, adds-offer}
 use Rattle.piece_type.proofs.Scenes.{sceneAt, maskOf, oppKsqOf, king-is, meets-some}
 use Rattle.piece_type.proofs.Attacked.{attacked-is}
-use Rattle.piece_type.proofs.Castling.{Asked, shortly, longly, rustly, ours, castles}
+use Rattle.piece_type.proofs.Castling.{Asked, shortly, longly, castles}
 
 held-is : (r : CastleRights) → notNoRights r ≡ (holds r short or holds r long)
 unfolding _or_
@@ -156,22 +155,27 @@ module _ (b : Board) (n : ℕ) where
         r = right-lt q h
 
   -- 563 to 607
+  abbrev shortEntry : SourceAndTargets
+  shortEntry = entryOf src (fromSquare (uleft (uleft src))) Forbidden false
+
+  abbrev longEntry : SourceAndTargets
+  longEntry = entryOf src (fromSquare (uright (uright src))) Forbidden false
+
   castling-adds : Adds (when (rank src == toMyBackrank c)
-      (if shortly (asks (opp c)) (file src == 6) src then push (entryOf src (fromSquare (uleft (uleft src))) Forbidden false)
-      else when (longly (asks (b .turn)) (file src == 2) src) (push (entryOf src (fromSquare (uright (uright src))) Forbidden false)))) (uncastledOf s n)
+      (if shortly (asks (opp c)) (file src == 6) src then push shortEntry else when (longly (asks (b .turn)) (file src == 2) src) (push longEntry))) (uncastledOf s n)
   unfolding uncastledOf shortOf longOf castledOf safeOf within sceneOf
   castling-adds =
       adds-same
       (adds-when (rank src == toMyBackrank c)
-      (adds-if (shortly (asks (opp c)) (file src == 6) src) (adds-push (entryOf src (fromSquare (uleft (uleft src))) Forbidden false))
-      (adds-when (longly (asks (b .turn)) (file src == 2) src) (adds-push (entryOf src (fromSquare (uright (uright src))) Forbidden false)))))
-      (ap₂ (λ (t u : Bool). cond (rank src == toMyBackrank c) (cond t (entryOf src (fromSquare (uleft (uleft src))) Forbidden false ∷ []) (cond u (entryOf src (fromSquare (uright (uright src))) Forbidden false ∷ []) [])) [])
+      (adds-if (shortly (asks (opp c)) (file src == 6) src) (adds-push shortEntry) (adds-when (longly (asks (b .turn)) (file src == 2) src) (adds-push longEntry))))
+      (ap₂ (λ (t u : Bool). if rank src == toMyBackrank c then (if t then shortEntry ∷ [] else if u then longEntry ∷ [] else []) else [])
       (short-same (opp c) (opp-opp (b .turn)) src src-lt) (long-same (b .turn) refl src src-lt)
       ∙ castles asked c src)
 
 pub king-adds : (T : CheckType) (b : Board) → Adds (legals T b (maskOf b)) (kingOf (sceneAt b) (nbCheckers T))
 unfolding legals kingOf sceneOf _>>_
 king-adds T b =
+    let n = nbCheckers T in
     adds-same
-    (adds-if (notNoRights (rightsAt b (opp (b .turn)))) adds-skip (adds-then (steps-add b (nbCheckers T)) (castling-adds b (nbCheckers T))))
-    (ap (λ (t : Bool). cond t [] (steppedOf (sceneAt b) (stepsOf (sceneAt b) (nbCheckers T)) ++ uncastledOf (sceneAt b) (nbCheckers T))) (held-is (rightsAt b (opp (b .turn)))))
+    (adds-if (notNoRights (rightsAt b (opp (b .turn)))) adds-skip (adds-then (steps-add b n) (castling-adds b n)))
+    (ap (λ (t : Bool). cond t [] (steppedOf (sceneAt b) (stepsOf (sceneAt b) n) ++ uncastledOf (sceneAt b) n)) (held-is (rightsAt b (opp (b .turn)))))

@@ -2,6 +2,8 @@ pub mod Sets
 pub mod Adding
 pub mod Scenes
 pub mod Officers
+pub mod Knights
+pub mod Sliders
 pub mod Pawns
 pub mod Attacked
 pub mod Castling

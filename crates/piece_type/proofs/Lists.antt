@@ -2,20 +2,17 @@
 use mathlib.Core.Path.{_≡_, refl, sym, ap, ap₂, _∙_, subst}
 use mathlib.Core.Bool.{Bool, true, false, cond}
 use mathlib.Core.List.{List, [], _∷_, _++_}
-use Prim.Native.Nat.{ℕ, _%_, _<_, _^_}
+use Prim.Native.Nat.{ℕ, _<_, _^_}
 use native.Mathlib.Nat.{mod-eq-of-lt}
 use native.Mathlib.Omega.{arith}
 use lib.Dec.{eqb, ltb}
-use lib.Bits.{bitAnd}
 use borrow.Author.Tests.{eqb-true, eqb-false, eq-eqb, lt-ltb}
-use Rattle.squares.specs.Tests.{_and_}
 use Rattle.squares.specs.Squares.{file, has, size}
 use Rattle.geometry.specs.Colors.{opp}
 use Rattle.laws.specs.declared.Piece.the-variants.{Queen}
 use Rattle.laws.specs.declared.EnPassantFlag.{EnPassantFlag}
 use Rattle.laws.specs.declared.EnPassantFlag.the-variants.{Any, Some, None}
 use Rattle.laws.specs.Men.{kindPlace}
-use Rattle.laws.specs.Attacks.{checks, checkersOf}
 use Rattle.laws.specs.Acceptance.{stateOk}
 use Rattle.laws.specs.Boards.{Board, posOf, acceptedBoard}
 use Rattle.roll.specs.declared.SourceAndTargets.{SourceAndTargets}
@@ -33,7 +30,7 @@ use Rattle.squares.proofs.Counting.{count-none, count-empty}
 use Rattle.squares.proofs.Digits.{has-zero}
 use Rattle.laws.proofs.Facts.{accepts, names}
 use Rattle.enumerate.proofs.Ranks.{second-is}
-use Rattle.piece_type.specs.Bitboards.{_&_}
+use Rattle.piece_type.specs.Bitboards.{_&_, _==_, if_then_else_, EMPTY}
 use Rattle.piece_type.specs.Squares.{toSecondRank}
 use Rattle.piece_type.specs.Statements.{Run, _>>_, push, skip, fromNew}
 use Rattle.piece_type.specs.PieceTypes.{CheckType, NotInCheck, InSimpleCheck, InDoubleCheck, nbCheckers, BishopType, RookType, QueenType}
@@ -44,7 +41,8 @@ use Rattle.piece_type.specs.Knights as knights
 use Rattle.piece_type.specs.Kings as kings
 use Rattle.piece_type.proofs.Adding.{Adds, adds-same, adds-then, adds-push, adds-skip, adds-if}
 use Rattle.piece_type.proofs.Scenes.{sceneAt, maskOf}
-use Rattle.piece_type.proofs.Officers.{knight-adds, bishop-adds, rook-adds, queen-adds}
+use Rattle.piece_type.proofs.Knights.{knight-adds}
+use Rattle.piece_type.proofs.Sliders.{bishop-adds, rook-adds, queen-adds}
 use Rattle.piece_type.proofs.Pawns.{pawn-adds}
 use Rattle.piece_type.proofs.Kings.{king-adds}
 
@@ -94,13 +92,16 @@ by-number s n = pick (eqb n 0) refl (eqb n 1) refl (eqb n 2) refl
         ∙ sym (ap (λ (t : Bool). cond t [] (kindsOf s n)) (lt-ltb 2 n (more (eqb-false n 0 e) (eqb-false n 1 f) (eqb-false n 2 g))))
 
 by-checkers : (b : Board) → b .checkers < 2 ^ 64
-    → Adds (cond (eqb (b .checkers) 0) (kinds NotInCheck b) (cond (eqb (size (b .checkers)) 1) (kinds InSimpleCheck b) (cond (eqb (size (b .checkers)) 2) (lesser InDoubleCheck b) skip))) (byCheckers (sceneAt b) (size (b .checkers)))
+    → Adds (if b .checkers == EMPTY then kinds NotInCheck b
+    else if size (b .checkers) == 1 then kinds InSimpleCheck b
+    else if size (b .checkers) == 2 then lesser InDoubleCheck b else skip) (byCheckers (sceneAt b) (size (b .checkers)))
 unfolding kindsOf
 by-checkers b h =
     let n = size (b .checkers) in
+    let s = sceneAt b in
     adds-same
-    (adds-if (eqb (b .checkers) 0) (kinds-add NotInCheck b) (adds-if (eqb n 1) (kinds-add InSimpleCheck b) (adds-if (eqb n 2) (lesser-add InDoubleCheck b) adds-skip)))
-    (ap (λ (t : Bool). cond t (kindsOf (sceneAt b) 0) (cond (eqb n 1) (kindsOf (sceneAt b) 1) (cond (eqb n 2) (kindsOf (sceneAt b) 2) []))) (none-is (b .checkers) h) ∙ by-number (sceneAt b) n)
+    (adds-if (b .checkers == EMPTY) (kinds-add NotInCheck b) (adds-if (n == 1) (kinds-add InSimpleCheck b) (adds-if (n == 2) (lesser-add InDoubleCheck b) adds-skip)))
+    (ap (λ (t : Bool). cond t (kindsOf s 0) (cond (n == 1) (kindsOf s 1) (cond (n == 2) (kindsOf s 2) []))) (none-is (b .checkers) h) ∙ by-number s n)
 
 -- the state decides first
 by-state : (b : Board) (e : EnPassantFlag) → ((sq : ℕ) → e ≡ Some sq → sq < 64) → (run : Run) → Adds run (byCheckers (sceneAt b) (size (b .checkers)))
@@ -125,13 +126,17 @@ pub officers-same : (b : Board)
     → officerRetractions b ≡ officerListOf (b .pieces) (b .colors) (b .combined) (b .turn) (b .white) (b .black) (b .pinned) (b .checkers) (b .passant)
 unfolding officerRetractions officerListOf officersOf _>>_
 officers-same b =
-    new-adds (adds-then (adds-then (adds-then (adds-then (knight-adds NotInCheck b) (bishop-adds NotInCheck b)) (rook-adds NotInCheck b)) (queen-adds NotInCheck b)) (king-adds NotInCheck b))
+    new-adds
+    (adds-then (adds-then (adds-then (adds-then (knight-adds NotInCheck b) (bishop-adds NotInCheck b)) (rook-adds NotInCheck b)) (queen-adds NotInCheck b))
+    (king-adds NotInCheck b))
 
 -- an accepted board is one that the Rust can hold
 accepted-typed : (b : Board) → acceptedBoard b ≡ true → Typed b
 accepted-typed b ok = record {
   checkers-fit = subst (λ (x : ℕ). x < 2 ^ 64) (sym (eqb-true (b .checkers) _ (right _ _ (left _ _ (right _ _ ok))))) (upTo-lt 64 _);
-  square-fits = λ sq e. names (posOf b .men) (b .turn) sq (subst (λ (f : EnPassantFlag). stateOk (posOf b .men) (b .turn) f ≡ true) e (accepts (posOf b) (right _ _ (left _ _ ok)) .state)) .on-board;
+  square-fits = λ sq e.
+      names (posOf b .men) (b .turn) sq
+      (subst (λ (f : EnPassantFlag). stateOk (posOf b .men) (b .turn) f ≡ true) e (accepts (posOf b) (right _ _ (left _ _ ok)) .state)) .on-board;
 }
 
 pub accepted-same : (b : Board) → acceptedBoard b ≡ true

@@ -1,34 +1,29 @@
 -- The pawn's `legals` adds what `pawnOf` lists.
-use mathlib.Core.Path.{_≡_, refl, sym, ap, ap₂, _∙_}
+use mathlib.Core.Path.{_≡_, refl, ap, ap₂, _∙_}
 use mathlib.Core.Bool.{Bool, true, false, not, cond}
-use mathlib.Core.List.{List, [], _∷_, _++_}
-use Prim.Native.Nat.{ℕ, _<_, _^_}
+use mathlib.Core.List.{[]}
+use Prim.Native.Nat.{ℕ, _<_}
 use native.Mathlib.Omega.{arith}
-use lib.Dec.{eqb, leb}
-use lib.Bits.{bitAnd, bitOr}
 use Rattle.squares.specs.Tests.{_and_, _or_}
 use Rattle.squares.specs.Squares.{rank, has, only}
-use Rattle.squares.specs.Members.{compl, firstOf, members, forEach, concat}
+use Rattle.squares.specs.Members.{firstOf, members, concat}
 use Rattle.geometry.specs.declared.Color.{Color}
 use Rattle.geometry.specs.declared.Color.the-variants.{White, Black}
 use Rattle.geometry.specs.Colors.{opp}
 use Rattle.geometry.specs.Lines.{betweenOf}
 use Rattle.laws.specs.declared.EnPassantFlag.{EnPassantFlag}
 use Rattle.laws.specs.declared.EnPassantFlag.the-variants.{Any, Some, None}
-use Rattle.laws.specs.declared.Piece.the-variants.{Pawn}
 use Rattle.laws.specs.Boards.{Board}
-use Rattle.roll.specs.declared.SourceAndTargets.{SourceAndTargets}
 use Rattle.roll.specs.declared.UnCaptureKind.the-variants.{Necessary, Forbidden, UnEnPassant}
 use Rattle.scene.specs.declared.Scene.{Scene}
 use Rattle.scene.specs.Chess.{rankSet, ownRank, adjacentFiles, backOf, pawnAttacks, lineOf}
 use Rattle.scene.specs.Scenes.{within, sceneOf}
 use Rattle.pawns.specs.Pawns.{pawnsOf, checkMask, firstRank, candidateRetractors, otherRayOf, allowsOf, capturersOf, doubledOf, crossedOf, vacantOf, homeOf, unpushOf, uncaptureOf, promotedOf, fromOf, stepsOf}
-use Rattle.passants.specs.Passants.{besidePlain, besideReborn, underOne, raysOf, oneOfTwo, twoOthers, underTwo, underOf, passantAt, passantOf, passantRank, pawnOf}
+use Rattle.passants.specs.Passants.{besidePlain, besideReborn, underOne, raysOf, oneOfTwo, twoOthers, underTwo, underOf, passantAt, passantOf, pawnOf}
 use Rattle.squares.proofs.Comprehension.{upTo-lt}
 use Rattle.piece_type.specs.Bitboards.{_&_, !_, _¦_, _==_, _!=_, if_then_else_, EMPTY, fromSquare, toSquare}
 use Rattle.piece_type.specs.Squares.{getPawnAttacks}
-use Rattle.piece_type.specs.Boards.{piecesOf, colorCombined}
-use Rattle.piece_type.specs.Statements.{Run, _>>_, skip, for}
+use Rattle.piece_type.specs.Statements.{_>>_, skip, for}
 use Rattle.piece_type.specs.PieceTypes.{CheckType, NotInCheck, InSimpleCheck, InDoubleCheck, nbCheckers}
 use Rattle.piece_type.specs.Pawns.{pushUnseen, epRankOf, unchecking, legals}
 use Rattle.piece_type.proofs.Sets.{and-assoc, and-all, meets-none}
@@ -71,14 +66,16 @@ unfolding unchecking underOf underOne underTwo oneOfTwo twoOthers raysOf _and_
 unchecked NotInCheck s src reborn targets h g = refl
 unchecked InSimpleCheck s src reborn targets h g =
     let ray = betweenOf (firstOf (s .checkers)) (s .oppking) in
-    ap (λ (t : Bool). cond (not (eqb (firstOf (s .checkers)) src)) (cond t (bitAnd targets ray) targets) targets) (meets-none reborn ray g)
-    ∙ within-test (not (eqb (firstOf (s .checkers)) src)) (not (has ray reborn)) (bitAnd targets ray) targets
+    ap (λ (t : Bool). if firstOf (s .checkers) != src then (if t then targets & ray else targets) else targets) (meets-none reborn ray g)
+    ∙ within-test (firstOf (s .checkers) != src) (not (has ray reborn)) (targets & ray) targets
 unchecked InDoubleCheck s src reborn targets h g =
-    let ray = betweenOf (firstOf (bitAnd (s .checkers) (compl (only src)))) (s .oppking) in
+    let ray = betweenOf (firstOf (s .checkers & ! only src)) (s .oppking) in
     let rays = raysOf (s .oppking) (s .checkers) in
-    ap (λ (t : Bool). cond t (cond (fromSquare reborn & ray != EMPTY) (bitAnd targets ray) targets) (bitAnd (cond (fromSquare reborn & rays == EMPTY) 0 targets) rays)) (meets-some src (s .checkers) h)
-    ∙ ap₂ (λ (t u : Bool). cond (has (s .checkers) src) (cond t (bitAnd targets ray) targets) (bitAnd (cond u 0 targets) rays)) (meets-some reborn ray g) (meets-none reborn rays g)
-    ∙ ap (λ (x : ℕ). cond (has (s .checkers) src) (cond (has ray reborn) (bitAnd targets ray) targets) (bitAnd x rays)) (cond-not (has rays reborn) 0 targets)
+    let one : Bool → ℕ = λ t. if t then targets & ray else targets in
+    let two : Bool → ℕ = λ t. (if t then EMPTY else targets) & rays in
+    ap (λ (t : Bool). if t then one (fromSquare reborn & ray != EMPTY) else two (fromSquare reborn & rays == EMPTY)) (meets-some src (s .checkers) h)
+    ∙ ap₂ (λ (t u : Bool). if has (s .checkers) src then one t else two u) (meets-some reborn ray g) (meets-none reborn rays g)
+    ∙ ap (λ (x : ℕ). if has (s .checkers) src then one (has ray reborn) else x & rays) (cond-not (has rays reborn) EMPTY targets)
 
 module _ (b : Board) (T : CheckType) where
   abbrev s : Scene
@@ -106,7 +103,9 @@ module _ (b : Board) (T : CheckType) where
 
   ray-is : (src : ℕ) → ray src ≡ otherRayOf s n src
   unfolding otherRayOf sceneOf
-  ray-is src = ap (λ (x : ℕ). cond (eqb n 0 or (eqb n 1 and eqb (firstOf (b .checkers)) src)) (! EMPTY) (betweenOf (firstOf (b .checkers & ! fromSquare src)) x)) (king-is b)
+  ray-is src =
+      let other = firstOf (b .checkers & ! fromSquare src) in
+      ap (λ (k : ℕ). if n == 0 or (n == 1 and firstOf (b .checkers) == src) then ! EMPTY else betweenOf other k) (king-is b)
 
   abbrev home : ℕ → ℕ
   home src = ! b .combined & ! mask & ! firstRank s & ray src & s .mask
@@ -133,17 +132,24 @@ module _ (b : Board) (T : CheckType) where
   unpush-is : (src : ℕ) → src < 64 → unpush src ≡ unpushOf s (otherRayOf s n src) src
   unfolding unpushOf sceneOf
   unpush-is src h =
-      ap (λ (t : Bool). cond t (crossing src (backOf c src) & home src & lineOf src oppKsq) (crossing src (backOf c src) & home src)) (meets-some src (b .pinned) h)
-      ∙ ap₂ (λ (x k : ℕ). cond (has (b .pinned) src) (x & lineOf src k) x) (ap₂ bitAnd (crossing-is src (backOf c src) (back-lt c src)) (home-is src)) (king-is b)
+      let x = crossing src (backOf c src) & home src in
+      ap (λ (t : Bool). if t then x & lineOf src oppKsq else x) (meets-some src (b .pinned) h)
+      ∙ ap₂ (λ (y k : ℕ). if has (b .pinned) src then y & lineOf src k else y) (ap₂ _&_ (crossing-is src (backOf c src) (back-lt c src)) (home-is src)) (king-is b)
 
-  uncapture-is : (src : ℕ) → getPawnAttacks src (opp c) (! b .combined) & ! mask & ! firstRank s & ray src & s .mask ≡ uncaptureOf s (otherRayOf s n src) src
+  abbrev uncapture : ℕ → ℕ
+  uncapture src = getPawnAttacks src (opp c) (! b .combined) & ! mask & ! firstRank s & ray src & s .mask
+
+  uncapture-is : (src : ℕ) → uncapture src ≡ uncaptureOf s (otherRayOf s n src) src
   unfolding uncaptureOf sceneOf
   uncapture-is src =
-      and-first (pawnAttacks (opp c) src) (! b .combined) (! mask) (! firstRank s) (ray src) (s .mask) ∙ ap (bitAnd (pawnAttacks (opp c) src)) (home-is src)
+      and-first (pawnAttacks (opp c) src) (! b .combined) (! mask) (! firstRank s) (ray src) (s .mask) ∙ ap (_&_ (pawnAttacks (opp c) src)) (home-is src)
 
-  steps-add : Adds (for (candidateRetractors s n) (λ src. offer src (unpush src) Forbidden (promotedOf s src) >> offer src (getPawnAttacks src (opp c) (! b .combined) & ! mask & ! firstRank s & ray src & s .mask) Necessary (promotedOf s src))) (stepsOf s n)
+  -- 226 to 283
+  steps-add : Adds (for (candidateRetractors s n) (λ src. offer src (unpush src) Forbidden (promotedOf s src)
+      >> offer src (uncapture src) Necessary (promotedOf s src))) (stepsOf s n)
   unfolding stepsOf fromOf
-  steps-add = adds-for _ (fromOf s n) (λ src h. adds-then (adds-offer src _ (unpush-is src h) refl) (adds-offer src _ (uncapture-is src) refl)) (candidateRetractors s n)
+  steps-add =
+      adds-for _ (fromOf s n) (λ src h. adds-then (adds-offer src _ (unpush-is src h) refl) (adds-offer src _ (uncapture-is src) refl)) (candidateRetractors s n)
 
   -- 297 to 301, and to 306
   abbrev beside : ℕ → ℕ → ℕ
@@ -162,20 +168,27 @@ module _ (b : Board) (T : CheckType) where
   lined-is : (src reborn : ℕ) → src < 64 → reborn < 64 → lined src reborn ≡ besideReborn s src reborn
   unfolding besideReborn sceneOf
   lined-is src reborn h g =
-      ap₂ (λ (t u : Bool). cond (t and u) (beside src reborn & lineOf src oppKsq) (beside src reborn)) (meets-some src (b .pinned) h) (meets-none reborn (lineOf src oppKsq) g)
-      ∙ ap₂ (λ (x k : ℕ). cond (has (b .pinned) src and not (has (lineOf src k) reborn)) (x & lineOf src k) x) (beside-is src reborn) (king-is b)
+      let x = beside src reborn in
+      let line = lineOf src oppKsq in
+      ap₂ (λ (t u : Bool). if t and u then x & line else x) (meets-some src (b .pinned) h) (meets-none reborn line g)
+      ∙ ap₂ (λ (y k : ℕ). if has (b .pinned) src and not (has (lineOf src k) reborn) then y & lineOf src k else y) (beside-is src reborn) (king-is b)
 
-  passant-adds : (src : ℕ) → src < 64
-      → Adds (if fromSquare (backOf (opp c) src) & b .combined != EMPTY or fromSquare (backOf c src) & b .combined != EMPTY then skip
-      else offer src (unchecking T (b .checkers) oppKsq src (backOf c src) (lined src (backOf c src))) UnEnPassant false) (passantOf s n src)
+  -- 290 to 345
+  abbrev blocked : ℕ → Bool
+  blocked src = fromSquare (backOf (opp c) src) & b .combined != EMPTY or fromSquare (backOf c src) & b .combined != EMPTY
+
+  passant-adds : (src : ℕ) → src < 64 → let reborn = backOf c src in
+      Adds (if blocked src then skip else offer src (unchecking T (b .checkers) oppKsq src reborn (lined src reborn)) UnEnPassant false) (passantOf s n src)
   unfolding passantOf passantAt sceneOf
   passant-adds src h =
+      let reborn = backOf c src in
       adds-same
-      (adds-if (fromSquare (backOf (opp c) src) & b .combined != EMPTY or fromSquare (backOf c src) & b .combined != EMPTY) adds-skip
+      (adds-if (blocked src) adds-skip
       (adds-offer src false
-      (ap₂ (λ (k x : ℕ). unchecking T (b .checkers) k src (backOf c src) x) (king-is b) (lined-is src (backOf c src) h (back-lt c src))
-      ∙ unchecked T s src (backOf c src) (besideReborn s src (backOf c src)) h (back-lt c src)) refl))
-      (ap₂ (λ (t u : Bool). cond (t or u) [] (passantAt s n src (backOf c src))) (meets-some (backOf (opp c) src) (b .combined) (back-lt (opp c) src)) (meets-some (backOf c src) (b .combined) (back-lt c src)))
+      (ap₂ (λ (k x : ℕ). unchecking T (b .checkers) k src reborn x) (king-is b) (lined-is src reborn h (back-lt c src))
+      ∙ unchecked T s src reborn (besideReborn s src reborn) h (back-lt c src)) refl))
+      (ap₂ (λ (t u : Bool). if t or u then [] else passantAt s n src reborn)
+      (meets-some (backOf (opp c) src) (b .combined) (back-lt (opp c) src)) (meets-some reborn (b .combined) (back-lt c src)))
 
 pub pawn-adds : (T : CheckType) (b : Board) → Adds (legals T b (maskOf b)) (pawnOf (sceneAt b) (nbCheckers T))
 unfolding legals pawnOf candidateRetractors within sceneOf

@@ -1,16 +1,15 @@
 -- Sets grouped otherwise, a single square that meets a set, and a set that meets all squares.
-use mathlib.Core.Path.{_≡_, refl, sym, ap, ap₂, _∙_, subst}
+use mathlib.Core.Path.{_≡_, refl, sym, ap, ap₂, _∙_}
 use mathlib.Core.Bool.{Bool, true, false, not, true≢false}
 use Prim.Native.Nat.{ℕ, zero, suc, _+_, _^_, _<_}
 use native.Mathlib.Nat.{lt-of-le-of-lt, zero-lt-suc, two-pow-succ, mod-eq-of-lt}
 use native.Mathlib.Omega.{arith}
 use lib.Dec.{eqb}
-use lib.Pow.{pow-pos}
 use lib.Bits.{bitAnd, bitOr, and-le-l, and-le-r, and-mask, or-lt}
 use borrow.Author.Tests.{eq-eqb, ne-eqb, eqb-true}
 use Rattle.squares.specs.Tests.{_and_, _or_}
 use Rattle.squares.specs.Squares.{has, only}
-use Rattle.squares.specs.Members.{compl, allSquares}
+use Rattle.squares.specs.Members.{allSquares}
 use Rattle.squares.proofs.Digits.{has-and, has-or, has-zero}
 use Rattle.squares.proofs.Comprehension.{ext, empty, has-setOf, upTo-lt}
 use Rattle.squares.proofs.Testing.{both}
@@ -87,8 +86,11 @@ meets-none k s l = go (has s k) refl
     go true e =
         ne-eqb (bitAnd (only k) s) 0
         (λ z. true≢false (sym (at k l ∙ both (eq-eqb k k refl) e) ∙ ap (λ (x : ℕ). has x k) z ∙ has-zero k))
-    go false e = eq-eqb (bitAnd (only k) s) 0 (empty 64 (bitAnd (only k) s) (lt-of-le-of-lt (and-le-l (only k) s) (upTo-lt 64 (λ i. eqb i k))) (λ j m. at j m ∙ none j (eqb j k) refl))
+    go false e = eq-eqb (bitAnd (only k) s) 0 (empty 64 (bitAnd (only k) s) fit (λ j m. at j m ∙ none j (eqb j k) refl))
       where
+        fit : bitAnd (only k) s < 2 ^ 64
+        fit = lt-of-le-of-lt (and-le-l (only k) s) (upTo-lt 64 (λ i. eqb i k))
+
         none : (j : ℕ) (t : Bool) → eqb j k ≡ t → (t and has s j) ≡ false
         none j true q = ap (has s) (eqb-true j k q) ∙ e
         none j false q = refl

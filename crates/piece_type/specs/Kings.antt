@@ -14,7 +14,7 @@ use Rattle.piece_type.specs.Bitboards.{_&_, !_, _==_, _!=_, if_then_else
 use Rattle.piece_type.specs.Squares.{toMyBackrank, uleft, uright}
 use Rattle.piece_type.specs.Boards.{piecesOf, colorCombined, rightsAt, notNoRights, kingSquare, isAttacked}
 use Rattle.piece_type.specs.Statements.{Run, _>>_, push, skip, when}
-use Rattle.piece_type.specs.PieceTypes.{PieceType, CheckType, nbCheckers, KingType}
+use Rattle.piece_type.specs.PieceTypes.{CheckType, nbCheckers, KingType}
 
 unfoldable pub legals : CheckType → Board → ℕ → Run
 legals T board mask = do

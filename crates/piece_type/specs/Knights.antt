@@ -11,7 +11,7 @@ use Rattle.roll.specs.Roll.{entryOf}
 use Rattle.piece_type.specs.Bitboards.{_&_, !_, _==_, _!=_, if_then_else_, EMPTY, fromSquare, toSquare}
 use Rattle.piece_type.specs.Boards.{piecesOf, colorCombined, kingSquare}
 use Rattle.piece_type.specs.Statements.{Run, _>>_, push, when, for}
-use Rattle.piece_type.specs.PieceTypes.{PieceType, CheckType, nbCheckers, KnightType}
+use Rattle.piece_type.specs.PieceTypes.{CheckType, nbCheckers, KnightType}
 
 unfoldable pub legals : CheckType → Board → ℕ → Run
 legals T board mask = do

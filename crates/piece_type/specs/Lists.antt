@@ -16,7 +16,7 @@ use Rattle.piece_type.specs.Bitboards.{_&_, !_, _==_, if_then_else_, EMP
 use Rattle.piece_type.specs.Squares.{toSecondRank}
 use Rattle.piece_type.specs.Boards.{colorCombined}
 use Rattle.piece_type.specs.Statements.{Run, _>>_, push, skip, fromNew}
-use Rattle.piece_type.specs.PieceTypes.{CheckType, NotInCheck, InSimpleCheck, InDoubleCheck, BishopType, RookType, QueenType}
+use Rattle.piece_type.specs.PieceTypes.{NotInCheck, InSimpleCheck, InDoubleCheck, BishopType, RookType, QueenType}
 use Rattle.piece_type.specs.Sliders as sliders
 use Rattle.piece_type.specs.Pawns as pawns
 use Rattle.piece_type.specs.Knights as knights

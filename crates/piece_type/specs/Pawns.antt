@@ -20,7 +20,7 @@ use Rattle.piece_type.specs.Bitboards.{_&_, !_, _¦_, _==_, _!=_, if_the
 use Rattle.piece_type.specs.Squares.{toMyBackrank, toFourthRank, toTheirBackrank, ubackward, uforward, getPawnAttacks}
 use Rattle.piece_type.specs.Boards.{piecesOf, colorCombined, kingSquare}
 use Rattle.piece_type.specs.Statements.{Run, _>>_, push, skip, when, for}
-use Rattle.piece_type.specs.PieceTypes.{PieceType, CheckType, nbCheckers, PawnType}
+use Rattle.piece_type.specs.PieceTypes.{CheckType, nbCheckers, PawnType}
 
 -- `match board.en_passant()` (243 to 247): `None` asks the test
 abbrev pub pushUnseen : EnPassantFlag → Bool → Bool

@@ -1,4 +1,5 @@
--- The statements of the Rust that push to `movelist`: what a run of them makes of the list. `do` puts one after the other.
+-- The statements of the Rust that push to `movelist`: what a run of them makes of the list. `do` puts one after the other. A name such as
+-- `castling_rooks` is `castlingRooks` here, and a variable that is assigned again is a `let` of the same name.
 use mathlib.Core.Bool.{Bool, cond}
 use mathlib.Core.List.{List, [], _∷_, _++_}
 use Prim.Native.Nat.{ℕ}
@@ -12,7 +13,7 @@ infixl 20 _>>_
 unfoldable pub _>>_ : Run → Run → Run
 _>>_ first next movelist = next (first movelist)
 
--- `movelist.push_unchecked(entry)`
+-- `movelist.push_unchecked(entry)`; of a 48th entry the Rust says nothing, and `answerOf` of roll FULL
 unfoldable pub push : SourceAndTargets → Run
 push entry movelist = movelist ++ (entry ∷ [])
 
