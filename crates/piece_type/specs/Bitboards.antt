@@ -1,4 +1,5 @@
--- The operators of the Rust, as it writes them: on a `BitBoard`, a number here; and on squares, ranks, files and counts, numbers too.
+-- The operators of the Rust, as it writes them: on a `BitBoard`, a number here; and on squares, ranks, files and counts, numbers too. On tests,
+-- `&&`, `||` and `!` are `and`, `or` and `not`.
 use mathlib.Core.Bool.{Bool, not, cond}
 use Prim.Native.Nat.{ℕ}
 use lib.Dec.{eqb}

@@ -13,7 +13,7 @@ pub record PieceType : Type 0 where
   pub intoPiece : Piece
   pub pseudoLegals : ℕ → Color → ℕ → ℕ → ℕ
 
--- (167 to 185)
+-- 167 to 185
 pub data CheckType : Type 0 where
   NotInCheck InSimpleCheck InDoubleCheck : CheckType
 
@@ -22,29 +22,29 @@ nbCheckers NotInCheck = 0
 nbCheckers InSimpleCheck = 1
 nbCheckers InDoubleCheck = 2
 
--- (188 to 195); no `legals` calls this one
+-- 188 to 195; no `legals` calls this one
 abbrev pub PawnType : PieceType
 PawnType = record {
   intoPiece = Pawn;
   pseudoLegals = λ src color combined mask. (getPawnAttacks src (opp color) (! combined) ⊻ getPawnQuiets src (opp color) combined) & mask;
 }
 
--- (350 to 357)
+-- 350 to 357
 abbrev pub BishopType : PieceType
 BishopType = record { intoPiece = Bishop; pseudoLegals = λ src color combined mask. bishopMoves src combined & mask }
 
--- (361 to 368)
+-- 361 to 368
 abbrev pub KnightType : PieceType
 KnightType = record { intoPiece = Knight; pseudoLegals = λ src color combined mask. knightMoves src & mask }
 
--- (473 to 480)
+-- 473 to 480
 abbrev pub RookType : PieceType
 RookType = record { intoPiece = Rook; pseudoLegals = λ src color combined mask. rookMoves src combined & mask }
 
--- (484 to 491)
+-- 484 to 491
 abbrev pub QueenType : PieceType
 QueenType = record { intoPiece = Queen; pseudoLegals = λ src color combined mask. (rookMoves src combined ⊻ bishopMoves src combined) & mask }
 
--- (494 to 501)
+-- 494 to 501
 abbrev pub KingType : PieceType
 KingType = record { intoPiece = King; pseudoLegals = λ src color combined mask. kingMoves src & mask }

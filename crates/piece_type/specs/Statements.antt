@@ -13,7 +13,7 @@ infixl 20 _>>_
 unfoldable pub _>>_ : Run → Run → Run
 _>>_ first next movelist = next (first movelist)
 
--- `movelist.push_unchecked(entry)`; of a 48th entry the Rust says nothing, and `answerOf` of roll FULL
+-- `movelist.push_unchecked(entry)`; of a 48th entry the Rust says nothing, and `answerOf` (roll) says FULL
 unfoldable pub push : SourceAndTargets → Run
 push entry movelist = movelist ++ (entry ∷ [])
 
