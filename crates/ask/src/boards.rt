@@ -1,10 +1,13 @@
-// Boards read from a line and put into an answer; un-make, replay and raw men.
+// Boards read from a line, what is put of them into an answer, replay and raw men.
 use super::fields;
 use super::puts;
 use accept::Refusal;
 use accept::Verdict;
+use board::Attacked;
 use board::Boarded;
+use board::PieceOn;
 use board::RetractableBoard;
+use laws::Piece;
 use text::Copied;
 use text::Raw;
 ghost use Prim.Native.Nat.{_≤_};
@@ -90,7 +93,7 @@ pub(super) fn put_boarded(b: Boarded, out: &mut [u8; 65536]) -> usize {
 }
 
 // The text, the checkers and the pins.
-fn put_unmade(b: Boarded, out: &mut [u8; 65536]) -> usize {
+pub(super) fn put_unmade(b: Boarded, out: &mut [u8; 65536]) -> usize {
     let n = put_boarded(b, out);
     let v = b.verdict;
     match v {
@@ -103,17 +106,31 @@ fn put_unmade(b: Boarded, out: &mut [u8; 65536]) -> usize {
     }
 }
 
-pub(super) fn unmake(line: &[u8], out: &mut [u8; 65536]) -> usize {
-    let at = fields::after(line, 0, b'\t');
-    let r = fields::retraction(line, fields::after(line, at, b'\t'));
-    let today = read(line, at);
-    let v = today.verdict;
-    match v {
-        Verdict::Refused(w) => puts::refused(w, out),
-        Verdict::Accepted => {
-            let b = today.board;
-            put_unmade(b.make_retraction_new(r), out)
-        }
+// The kind's letter, or `.`
+pub(super) fn put_piece(p: PieceOn, out: &mut [u8; 65536]) -> usize {
+    match p {
+        PieceOn::Nobody => puts::bytes(out, 0, b"."),
+        PieceOn::Kind(k) => puts::bytes(out, 0, &[letter(k)]),
+        PieceOn::Refused(r) => puts::refused(r, out),
+    }
+}
+
+fn letter(k: Piece) -> u8 {
+    match k {
+        Piece::Pawn => b'P',
+        Piece::Knight => b'N',
+        Piece::Bishop => b'B',
+        Piece::Rook => b'R',
+        Piece::Queen => b'Q',
+        Piece::King => b'K',
+    }
+}
+
+pub(super) fn put_attacked(a: Attacked, out: &mut [u8; 65536]) -> usize {
+    match a {
+        Attacked::Yes => puts::told(out, true),
+        Attacked::No => puts::told(out, false),
+        Attacked::Refused(r) => puts::refused(r, out),
     }
 }
 
@@ -134,22 +151,40 @@ pub(super) fn replay(line: &[u8], out: &mut [u8; 65536]) -> usize {
     }
 }
 
+// `raw TAB p n b r q k white black turn rights state`: the sets in hexadecimal, a square as its number
 pub(super) fn raw(line: &[u8], out: &mut [u8; 65536]) -> usize {
+    let b = untested(line);
+    let pieces = b.pieces;
+    let colors = b.colors;
+    let turn = b.turn;
+    let white = b.white;
+    let black = b.black;
+    let passant = b.passant;
+    put_boarded(
+        RetractableBoard::new(pieces, colors, turn, white, black, passant),
+        out,
+    )
+}
+
+// The board of raw fields, with union, checkers and pins behind them, as they stand there.
+pub(super) fn untested(line: &[u8]) -> RetractableBoard {
     let pieces = fields::after(line, 0, b'\t');
     let colors = fields::past(line, pieces, 6);
     let turn = fields::past(line, colors, 2);
-    let p = fields::sets(line, pieces);
-    let k = fields::colors(line, colors);
-    put_boarded(raw_board(line, turn, p, k), out)
-}
-
-// The board of raw men and of the fields from the turn on.
-fn raw_board(line: &[u8], turn: usize, pieces: [u64; 6], colors: [u64; 2]) -> Boarded {
     let rights = fields::after(line, turn, b' ');
     let state = fields::after(line, rights, b' ');
-    let color = fields::turn(fields::byte(line, turn));
-    let white = fields::rights(line, rights, b'K', b'Q');
-    let black = fields::rights(line, rights, b'k', b'q');
-    let passant = fields::state(line, state);
-    RetractableBoard::new(pieces, colors, color, white, black, passant)
+    let combined = fields::after(line, state, b' ');
+    let checkers = fields::after(line, combined, b' ');
+    let pinned = fields::after(line, checkers, b' ');
+    RetractableBoard {
+        pieces: fields::sets(line, pieces),
+        colors: fields::colors(line, colors),
+        combined: fields::hex(line, combined),
+        turn: fields::turn(fields::byte(line, turn)),
+        white: fields::rights(line, rights, b'K', b'Q'),
+        black: fields::rights(line, rights, b'k', b'q'),
+        pinned: fields::hex(line, pinned),
+        checkers: fields::hex(line, checkers),
+        passant: fields::state(line, state),
+    }
 }

@@ -1,6 +1,6 @@
-// `gate TAB raw fields, then union, checkers and pins`: by which number each entry refuses a board of these fields, 0 for none. The other arguments
-// are such that an entry which lets the board pass refuses them, where it can: 64 for a square, and slices without room.
-use super::fields;
+// `gate TAB raw fields union checkers pins`: by which number each entry refuses a board of these fields, 0 for none. The other arguments are such
+// that an entry which lets the board pass refuses them, where it can: 64 for a square, and slices without room.
+use super::boards;
 use super::puts;
 use accept::Refusal;
 use accept::Verdict;
@@ -19,35 +19,10 @@ use strict::LastMove;
 use text::Printed;
 
 pub(super) fn gate(line: &[u8], out: &mut [u8; 65536]) -> usize {
-    let pieces = fields::after(line, 0, b'\t');
-    let colors = fields::past(line, pieces, 6);
-    let turn = fields::past(line, colors, 2);
-    let p = fields::sets(line, pieces);
-    let k = fields::colors(line, colors);
-    let b = read(line, turn, p, k);
+    let b = boards::untested(line);
     let n = put_methods(b, out);
     let m = put_listings(b, out, n);
     put_strict(b, out, m)
-}
-
-// The board of raw men and of the fields from the turn on, untested.
-fn read(line: &[u8], turn: usize, pieces: [u64; 6], colors: [u64; 2]) -> RetractableBoard {
-    let rights = fields::after(line, turn, b' ');
-    let state = fields::after(line, rights, b' ');
-    let combined = fields::after(line, state, b' ');
-    let checkers = fields::after(line, combined, b' ');
-    let pinned = fields::after(line, checkers, b' ');
-    RetractableBoard {
-        pieces,
-        colors,
-        combined: fields::hex(line, combined),
-        turn: fields::turn(fields::byte(line, turn)),
-        white: fields::rights(line, rights, b'K', b'Q'),
-        black: fields::rights(line, rights, b'k', b'q'),
-        pinned: fields::hex(line, pinned),
-        checkers: fields::hex(line, checkers),
-        passant: fields::state(line, state),
-    }
 }
 
 // judge, piece_on, is_attacked, set_en_passant, set_uncertain_ep, make_retraction_new, replay

@@ -4,13 +4,13 @@ use libc::STDOUT_FILENO;
 ghost use Prim.Native.Nat.{_≤_};
 ghost use lib.ListN.{length};
 
-mod boards; // boards.rt: boards read and put; un-make, replay and raw men
+mod boards; // boards.rt: boards read, what is put of them, replay and raw men
 mod cursors; // cursors.rt: any cursor pressed once, and a board's whole sequence
 mod fields; // fields.rt: numbers, sets and retractions read from a line
 mod gates; // gates.rt: every entry's refusal of a board of any fields
 mod lists; // lists.rt: masks, entries and what is asked of the lists, put
-mod methods; // methods.rt: a square's man and attackers, another state
 mod puts; // puts.rt: bytes, numbers and sets put into an answer
+mod questions; // questions.rt: what is asked of a text, and the answer
 mod slices; // slices.rt: the text and the lists into a slice of any size
 mod verbs; // verbs.rt: which verb a line begins with
 
