@@ -201,7 +201,7 @@ def into(length):
 
 NO_VERBS = [b'', b'moves\t', b'\t', b'lists\t', b'raw ', b'piece', b'Count\t', b' strict\t', b'limite\t', b'cursor', b'gate,', b'unmak\xc3\t']
 FIELDS = {'raw': raw, 'piece': piece, 'attacked': attacked, 'setep': setep, 'cursor': cursor, 'gate': gate, 'print': into(lambda b: len(b.text)),
-          'list': into(lambda b: len(b.listed)), 'strictlist': into(lambda b: len(b.strict))}
+          'listinto': into(lambda b: len(b.listed)), 'strictinto': into(lambda b: len(b.strict))}
 
 
 def lines_of(verb, rng, boards, unmade):

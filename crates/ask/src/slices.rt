@@ -50,7 +50,7 @@ fn put_room(n: usize, out: &mut [u8; 65536]) -> usize {
     puts::next_number(out, a, n as u64)
 }
 
-// `list TAB text TAB size`, or with `strict` the strict list: `strictlist TAB text TAB size`
+// `listinto TAB text TAB size`, or with `strict` the strict list: `strictinto TAB text TAB size`
 pub(super) fn list(strict: bool, line: &[u8], out: &mut [u8; 65536]) -> usize {
     let at = fields::after(line, 0, b'\t');
     let size = fields::size(line, fields::after(line, at, b'\t'));

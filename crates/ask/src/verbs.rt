@@ -35,10 +35,10 @@ fn by_verb(line: &[u8], out: &mut [u8; 65536]) -> usize {
     if fields::starts(line, b"print\t") {
         return slices::print(line, out);
     }
-    if fields::starts(line, b"list\t") {
+    if fields::starts(line, b"listinto\t") {
         return slices::list(false, line, out);
     }
-    if fields::starts(line, b"strictlist\t") {
+    if fields::starts(line, b"strictinto\t") {
         return slices::list(true, line, out);
     }
     questions::answer(line, out)
