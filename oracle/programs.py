@@ -1,5 +1,7 @@
-"""Where the programs are that `oracle/compare` and `bench/run` run, and how they are built."""
+"""Where the programs are that `oracle/compare` and `bench/run` run, how they are built, and how they are asked."""
 import os, subprocess, sys
+from importlib.machinery import SourceFileLoader
+from importlib.util import module_from_spec, spec_from_loader
 
 ROOT = os.path.dirname(os.path.dirname(os.path.abspath(__file__)))
 BUILT = ROOT + '/target/oracle'
@@ -16,7 +18,7 @@ def build_oracle():
 
 
 def newest_source():
-    parts = [ROOT + '/oracle/' + p for p in ('brute', 'rust', 'gen', 'lastmoves')]
+    parts = [ROOT + '/oracle/' + p for p in ('brute', 'rust', 'gen', 'judge', 'lastmoves')]
     files = [os.path.join(d, f) for p in parts for d, _, names in os.walk(p) for f in names]
     return max(map(os.path.getmtime, files + parts))
 
@@ -31,3 +33,22 @@ def programs(built):
     if missing:
         sys.exit('no program ' + ' '.join(missing))
     return paths
+
+
+def load(name):
+    """A script of the built oracle as a module."""
+    loader = SourceFileLoader(name, BUILT + '/' + name)
+    module = module_from_spec(spec_from_loader(name, loader))
+    loader.exec_module(module)
+    return module
+
+
+def run(command, lines):
+    r = subprocess.run(command, input=b''.join(l + b'\n' for l in lines), stdout=subprocess.PIPE)
+    if r.returncode:
+        sys.exit('%s: exit status %d' % (' '.join(command), r.returncode))
+    return r.stdout
+
+
+def ask(command, lines):
+    return run(command, lines).split(b'\n')[:-1]

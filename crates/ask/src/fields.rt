@@ -3,6 +3,7 @@ use laws::CastleRights;
 use laws::ChessRetraction;
 use laws::Color;
 use laws::EnPassantFlag;
+ghost use Prim.Native.Nat.{_≤_};
 
 // The byte at a place, or a newline, which no line has.
 pub(super) fn byte(line: &[u8], at: usize) -> u8 {
@@ -33,6 +34,17 @@ pub(super) fn after(line: &[u8], at: usize, sep: u8) -> usize {
     i
 }
 
+// The place behind the next n spaces, or the line's end.
+pub(super) fn past(line: &[u8], at: usize, n: usize) -> usize {
+    let mut to = at;
+    let mut i = 0;
+    while i < n {
+        to = after(line, to, b' ');
+        i += 1;
+    }
+    to
+}
+
 fn hex_digit(b: u8) -> u64 {
     match b {
         b'0'..=b'9' => (b - b'0') as u64,
@@ -56,6 +68,22 @@ pub(super) fn hex(line: &[u8], at: usize) -> u64 {
     x
 }
 
+// Two sets and six, single spaces between.
+pub(super) fn colors(line: &[u8], at: usize) -> [u64; 2] {
+    [hex(line, at), hex(line, past(line, at, 1))]
+}
+
+pub(super) fn sets(line: &[u8], at: usize) -> [u64; 6] {
+    [
+        hex(line, at),
+        hex(line, past(line, at, 1)),
+        hex(line, past(line, at, 2)),
+        hex(line, past(line, at, 3)),
+        hex(line, past(line, at, 4)),
+        hex(line, past(line, at, 5)),
+    ]
+}
+
 fn digit(b: u8) -> u64 {
     match b {
         b'0'..=b'9' => (b - b'0') as u64,
@@ -63,34 +91,44 @@ fn digit(b: u8) -> u64 {
     }
 }
 
-// A decimal number, up to the first byte that is no digit; 255 for one above it.
-pub(super) fn decimal(line: &[u8], at: usize) -> u8 {
+// A decimal number, up to the first byte that is no digit; the largest one for all above it.
+pub(super) fn number(line: &[u8], at: usize) -> u64 {
     let mut x = 0u64;
     let mut i = at;
     while i < line.len() {
         let d = digit(line[i]);
         if d > 9 {
-            return least(x);
+            return x;
         }
         x = shifted(x, d);
         i += 1;
     }
-    least(x)
+    x
 }
 
-// A number with one more digit, 255 where it grows above it.
+// A number with one more digit, the largest one where it grows above it.
 fn shifted(x: u64, d: u64) -> u64 {
-    if x > 25 {
-        return 255;
+    if x > 1844674407370955160 {
+        return u64::MAX;
     }
     if d > 9 {
-        return 255;
+        return u64::MAX;
     }
     x * 10 + d
 }
 
-fn least(x: u64) -> u8 {
+// The same, 255 for a number above it.
+pub(super) fn decimal(line: &[u8], at: usize) -> u8 {
+    let x = number(line, at);
     if x > 255 { 255 } else { x as u8 }
+}
+
+// The size of a slice, at most 8,192.
+pub(super) fn size(line: &[u8], at: usize) -> usize
+    ensures { λ n. ⌜ n ≤ 8192 ⌝ }
+{
+    let x = number(line, at);
+    if x > 8192 { 8192 } else { x as usize }
 }
 
 // `w` or `b`.

@@ -1,15 +1,20 @@
-// The masks and the entries of a cursor, written.
-use super::verbs;
+// The masks and the entries of a board's cursor, and what is asked of its lists.
+use super::puts;
 use accept::Verdict;
+use limited::Limited;
+use listing::Listed;
 use retraction_gen::Made;
+use retraction_gen::Masks;
 use retraction_gen::RetractionGen;
 use roll::SourceAndTargets;
 use roll::UnCaptureKind;
+use strict::Counted;
+use strict::LastMove;
 
-pub(super) fn put_made(m: Made, out: &mut [u8; 2048]) -> usize {
+pub(super) fn put_made(m: Made, out: &mut [u8; 65536]) -> usize {
     let v = m.verdict;
     match v {
-        Verdict::Refused(r) => verbs::put_refused(r, out),
+        Verdict::Refused(r) => puts::refused(r, out),
         Verdict::Accepted => {
             let g = m.cursor;
             put_cursor(g, out)
@@ -18,10 +23,10 @@ pub(super) fn put_made(m: Made, out: &mut [u8; 2048]) -> usize {
 }
 
 // The masks, then each entry.
-fn put_cursor(g: RetractionGen, out: &mut [u8; 2048]) -> usize {
+fn put_cursor(g: RetractionGen, out: &mut [u8; 65536]) -> usize {
     let masks = g.masks;
     let entries = g.entries;
-    let mut n = put_masks(masks, out);
+    let mut n = puts::sets(out, 0, masks);
     let mut i = 0;
     while i < 47 {
         if i < g.len {
@@ -32,32 +37,23 @@ fn put_cursor(g: RetractionGen, out: &mut [u8; 2048]) -> usize {
     n
 }
 
-// Six numbers, single spaces between.
-fn put_masks(masks: [u64; 6], out: &mut [u8; 2048]) -> usize {
-    let a = feed::put_hex16(out, 0, masks[0]);
-    let b = put_next(out, a, masks[1]);
-    let c = put_next(out, b, masks[2]);
-    let d = put_next(out, c, masks[3]);
-    let e = put_next(out, d, masks[4]);
-    put_next(out, e, masks[5])
-}
-
-fn put_next(out: &mut [u8; 2048], len: usize, mask: u64) -> usize {
-    let a = feed::put_bytes(out, len, b" ");
-    feed::put_hex16(out, a, mask)
-}
-
 // ` square:targets:kind:mark`
-fn put_entry(e: SourceAndTargets, out: &mut [u8; 2048], len: usize) -> usize {
-    let name = [b' ', b'a' + e.source % 8, b'1' + e.source / 8, b':'];
-    let a = feed::put_bytes(out, len, &name);
-    let b = feed::put_hex16(out, a, e.targets);
+fn put_entry(e: SourceAndTargets, out: &mut [u8; 65536], len: usize) -> usize {
+    let name = [b' ', b'a' + e.source % 8, b'1' + e.source / 8];
+    let a = puts::bytes(out, len, &name);
+    put_rest(e, out, a)
+}
+
+// `:targets:kind:mark`
+pub(super) fn put_rest(e: SourceAndTargets, out: &mut [u8; 65536], len: usize) -> usize {
+    let a = puts::bytes(out, len, b":");
+    let b = puts::set(out, a, e.targets);
     let kind = e.kind;
     let end = [b':', letter(kind), b':', mark(e.unpromotion)];
-    feed::put_bytes(out, b, &end)
+    puts::bytes(out, b, &end)
 }
 
-fn letter(kind: UnCaptureKind) -> u8 {
+pub(super) fn letter(kind: UnCaptureKind) -> u8 {
     match kind {
         UnCaptureKind::Optional => b'O',
         UnCaptureKind::Necessary => b'N',
@@ -68,4 +64,47 @@ fn letter(kind: UnCaptureKind) -> u8 {
 
 fn mark(unpromotion: bool) -> u8 {
     if unpromotion { b'=' } else { b'.' }
+}
+
+pub(super) fn put_masks(m: Masks, out: &mut [u8; 65536]) -> usize {
+    let v = m.verdict;
+    match v {
+        Verdict::Refused(r) => puts::refused(r, out),
+        Verdict::Accepted => {
+            let masks = m.masks;
+            puts::sets(out, 0, masks)
+        }
+    }
+}
+
+pub(super) fn put_count(l: Listed, out: &mut [u8; 65536]) -> usize {
+    match l {
+        Listed::Count(n) => puts::number(out, 0, n as u64),
+        Listed::Room(n) => puts::number(out, 0, n as u64),
+        Listed::Refused(r) => puts::refused(r, out),
+    }
+}
+
+pub(super) fn put_strict(c: Counted, out: &mut [u8; 65536]) -> usize {
+    match c {
+        Counted::Count(n) => puts::number(out, 0, n as u64),
+        Counted::Refused(r) => puts::refused(r, out),
+    }
+}
+
+pub(super) fn put_limited(l: Limited, out: &mut [u8; 65536]) -> usize {
+    match l {
+        Limited::Yes => puts::told(out, true),
+        Limited::No => puts::told(out, false),
+        Limited::Refused(r) => puts::refused(r, out),
+    }
+}
+
+// `1` where there is a last move
+pub(super) fn put_last_move(l: LastMove, out: &mut [u8; 65536]) -> usize {
+    match l {
+        LastMove::Exists => puts::told(out, true),
+        LastMove::NoLastMove => puts::told(out, false),
+        LastMove::Refused(r) => puts::refused(r, out),
+    }
 }

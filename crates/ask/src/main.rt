@@ -4,18 +4,25 @@ use libc::STDOUT_FILENO;
 ghost use Prim.Native.Nat.{_≤_};
 ghost use lib.ListN.{length};
 
-mod fields; // fields.rt: numbers, raw men and retractions read from a line
-mod lists; // lists.rt: the masks and entries of a cursor, written
-mod verbs; // verbs.rt: what each verb answers
+mod boards; // boards.rt: boards read, what is put of them, replay and raw men
+mod cursors; // cursors.rt: any cursor pressed once, and a board's whole sequence
+mod fields; // fields.rt: numbers, sets and retractions read from a line
+mod gates; // gates.rt: every entry's refusal of a board of any fields
+mod lists; // lists.rt: masks, entries and what is asked of the lists, put
+mod puts; // puts.rt: bytes, numbers and sets put into an answer
+mod questions; // questions.rt: what is asked of a text, and the answer
+mod slices; // slices.rt: the text and the lists into a slice of any size
+mod verbs; // verbs.rt: which verb a line begins with
 
 fn main() {
     let mut chunk = io::large_buffer();
     let mut line = [0u8; 512];
-    answer_all(&mut chunk, &mut line);
+    let mut out = io::large_buffer();
+    answer_all(&mut chunk, &mut line, &mut out);
 }
 
 // The turns are counted down from a number that no input uses up.
-fn answer_all(chunk: &mut [u8; 65536], line: &mut [u8; 512]) {
+fn answer_all(chunk: &mut [u8; 65536], line: &mut [u8; 512], out: &mut [u8; 65536]) {
     let mut c = feed::start();
     let mut turns = u64::MAX;
     while turns > 0 {
@@ -23,17 +30,17 @@ fn answer_all(chunk: &mut [u8; 65536], line: &mut [u8; 512]) {
         let Step::Line { len, long: _, next } = s else {
             return;
         };
-        answer(line, len);
+        answer(line, len, out);
         c = next;
         turns -= 1;
     }
 }
 
 // One write a line.
-fn answer(line: &[u8], len: usize)
+fn answer(line: &[u8], len: usize, out: &mut [u8; 65536])
     requires { ⌜ len ≤ length (now line) ⌝ }
 {
-    let mut out = [0u8; 2048];
-    let n = verbs::reply(&line[..len], &mut out);
-    io::write_all(STDOUT_FILENO, &out[..n]);
+    let n = verbs::reply(&line[..len], out);
+    let text: &[u8] = out;
+    io::write_all(STDOUT_FILENO, &text[..n]);
 }

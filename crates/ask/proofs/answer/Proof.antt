@@ -11,11 +11,8 @@ slice-aggregate-reply c = sym (length-take-le _ _ (c .before .before .pre))
 reply-requires : tie.Need-reply-requires
 reply-requires c κs = search needs
 
-array-share-prefix-out : tie.Need-array-share-prefix-out
-array-share-prefix-out c = c .reply .ensures
-
 slice-aggregate-write-all : tie.Need-slice-aggregate-write-all
-slice-aggregate-write-all c = sym (length-take-le _ _ (c .before .reply .ensures))
+slice-aggregate-write-all c = sym (length-take-le _ _ (c .before .before .before .reply .ensures))
 
 write-all-requires : tie.Need-write-all-requires
 write-all-requires c κs = search needs
@@ -29,7 +26,6 @@ answer-spec =
     (tie.spec
     slice-aggregate-reply
     reply-requires
-    array-share-prefix-out
     slice-aggregate-write-all
     write-all-requires
     returns)

@@ -9,10 +9,10 @@ use Rattle.ask.proofs.answer_all.Statement.{statement}
 use Rattle.ask.proofs.answer_all.Tie as tie
 
 abbrev Inv-loop : tie.InvT-loop
-Inv-loop chunk₀ line₀ c₀ turns₀ chunk line c turns = Unit {0}
+Inv-loop chunk₀ line₀ out₀ c₀ turns₀ chunk line out c turns = Unit {0}
 
 abbrev μ-loop : tie.MeasureT-loop
-μ-loop chunk₀ line₀ c₀ turns₀ chunk line c turns = turns
+μ-loop chunk₀ line₀ out₀ c₀ turns₀ chunk line out c turns = turns
 
 start-requires : tie.Need-start-requires Inv-loop μ-loop
 start-requires c κs = search needs
@@ -30,7 +30,7 @@ returns : tie.Need-returns Inv-loop μ-loop
 returns c = search needs
 
 answer-requires : tie.Need-answer-requires Inv-loop μ-loop
-answer-requires c κs = let k : c .before .before .before .s .given .0 .0 ≤ 512 = subst Sound (c .before .before .before .s .given .1) (c .before .before .before .before .before .next .ensures) in let e : length (c .before .before .before .before .before .next .last .1 .0) ≡ 512 = search needs in omega arith
+answer-requires c κs = let k : c .before .before .before .before .s .given .0 .0 ≤ 512 = subst Sound (c .before .before .before .before .s .given .1) (c .before .before .before .before .before .before .next .ensures) in let e : length (c .before .before .before .before .before .before .next .last .1 .0) ≡ 512 = search needs in omega arith
 
 sub-turns : tie.Need-sub-turns Inv-loop μ-loop
 sub-turns c = omega arith

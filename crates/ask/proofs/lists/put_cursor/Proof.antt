@@ -11,8 +11,8 @@ Inv-loop g out₀ entries n₀ i₀ out n i = i ≤ 47
 abbrev μ-loop : tie.MeasureT-loop
 μ-loop g out₀ entries n₀ i₀ out n i = 47 - i
 
-put-masks-requires : tie.Need-put-masks-requires Inv-loop μ-loop
-put-masks-requires c κs = search needs
+sets-requires : tie.Need-sets-requires Inv-loop μ-loop
+sets-requires c κs = search needs
 
 loop-holds : tie.Need-loop-holds Inv-loop μ-loop
 loop-holds c = omega arith
@@ -44,7 +44,7 @@ put-cursor-spec =
     (tie.spec
     Inv-loop
     μ-loop
-    put-masks-requires
+    sets-requires
     loop-holds
     mul-put-entry
     array-copy-out-put-entry

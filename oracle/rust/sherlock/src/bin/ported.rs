@@ -4,8 +4,15 @@
 //!   ported entries -> the six uncapture masks (hex), then each entry source:targets(hex):O|N|F|E (optional, necessary, forbidden, un-en-passant):=|.
 //!   ported tables   -> (no input) between/line for each pair, knight/king/pawn/ray sets
 //!   ported limited  -> "<0|1> <longest list built>"
-//!   ported attacked -> two hex sets: squares attacked by White, by Black
+//!   ported masks    -> the six uncapture masks (hex) alone
+//!   ported attacked -> two hex sets: squares attacked by White, by Black; of "<text>\t<square>\t<w|b>": 1 or 0
 //!   ported info     -> printed board, checkers, pins
+//!   ported piece    -> input "<text>\t<square>", answer: the letter of the kind there, `.` for none
+//!   ported setep    -> input "<text>\t<state>" (`-`, `?` or a square's number), answer: the board with that state
+//!   ported uncertain -> the board after set_uncertain_ep
+//!   ported sequence -> what `next` answers, packed, and "end" three times
+//!   ported cursor   -> a cursor in the form of `brute cursor`, with at most 47 entries and every source a square: what `next` answers and the
+//!                      cursor after it; "malformed" for any other
 use chess::*;
 use sherlock::utils::is_attacked;
 use sherlock::*;
@@ -23,6 +30,52 @@ fn read(t: &str) -> RetractableBoard {
         }
     }
     b
+}
+fn state(t: &str) -> EnPassantFlag {
+    match t {
+        "-" => EnPassantFlag::None,
+        "?" => EnPassantFlag::Any,
+        n => EnPassantFlag::Some(Square::new(n.parse().unwrap())),
+    }
+}
+type Entry = (usize, u64, u8, bool);
+const LETTERS: &str = "ONFE";
+fn entry(t: &str) -> (usize, Entry) {
+    let w: Vec<&str> = t.split(':').collect();
+    let kind = LETTERS.find(w[3]).unwrap() as u8;
+    (w[0].parse().unwrap(), (w[1].parse().unwrap(), u64::from_str_radix(w[2], 16).unwrap(), kind, w[4] == "="))
+}
+/// One press of a cursor: the answer and the cursor after it.
+fn press(l: &str) -> String {
+    let w: Vec<&str> = l.split(' ').collect();
+    let (len, index, uncaptured): (usize, usize, usize) = (w[0].parse().unwrap(), w[1].parse().unwrap(), w[2].parse().unwrap());
+    let masks: Vec<u64> = w[3..9].iter().map(|m| u64::from_str_radix(m, 16).unwrap()).collect();
+    let empty: Entry = (0, 0, 0, false);
+    let mut entries = [empty; 47];
+    for (place, e) in w[9..].iter().map(|t| entry(t)) {
+        if place < 47 {
+            entries[place] = e;
+        }
+    }
+    if len > 47 || entries[..len].iter().any(|e| e.0 > 63) {
+        return "malformed".into();
+    }
+    let mut g = RetractionGen::oracle_cursor(&entries[..len], index, uncaptured, &masks);
+    let mut out = match g.next() {
+        None => "end".into(),
+        Some(r) => {
+            let n = pack(&r);
+            format!("{},{},{},{}", n % 64, n / 64 % 64, n / 4096 % 8, n >> 15)
+        }
+    };
+    entries[..len].copy_from_slice(&g.oracle_entries());
+    let (index, uncaptured) = g.oracle_places();
+    out += &format!(" {} {} {}", len, index, uncaptured);
+    out.extend(g.oracle_masks().iter().map(|m| format!(" {:016x}", m)));
+    for (i, (s, t, k, u)) in entries.iter().enumerate().filter(|(_, e)| **e != empty) {
+        out += &format!(" {}:{}:{:016x}:{}:{}", i, s, t, &LETTERS[*k as usize..*k as usize + 1], if *u { "=" } else { "." });
+    }
+    out
 }
 const KINDS: [Option<Piece>; 6] = [None, Some(Piece::Pawn), Some(Piece::Knight), Some(Piece::Bishop), Some(Piece::Rook), Some(Piece::Queen)];
 fn pack(r: &ChessRetraction) -> usize {
@@ -67,6 +120,10 @@ fn main() {
                     write!(out, " {}:{:016x}:{}:{}", Square::new(s as u8), t, ["O", "N", "F", "E"][k as usize], if u { "=" } else { "." }).unwrap();
                 }
             }
+            "masks" => {
+                let m: Vec<String> = RetractionGen::new_legal(&read(&l)).oracle_masks().iter().map(|x| format!("{:016x}", x)).collect();
+                write!(out, "{}", m.join(" ")).unwrap();
+            }
             "limited" => {
                 let b = read(&l);
                 let x = RetractionGen::is_limited_in_retractions(&b);
@@ -75,6 +132,11 @@ fn main() {
             "info" => {
                 let b = read(&l);
                 write!(out, "{} {:016x} {:016x}", b, b.checkers().0, b.pinned().0).unwrap();
+            }
+            "attacked" if l.contains('\t') => {
+                let w: Vec<&str> = l.split('\t').collect();
+                let color = if w[2] == "w" { Color::White } else { Color::Black };
+                write!(out, "{}", is_attacked(&read(w[0]), Square::new(w[1].parse().unwrap()), color) as u8).unwrap();
             }
             "attacked" => {
                 let b = read(&l);
@@ -88,6 +150,36 @@ fn main() {
                 }
                 write!(out, "{:016x} {:016x}", m[0], m[1]).unwrap();
             }
+            "piece" => {
+                let (t, q) = l.split_once('\t').unwrap();
+                let kind = read(t).piece_on(Square::new(q.parse().unwrap()));
+                write!(out, "{}", kind.map_or(".".into(), |k| k.to_string(Color::White))).unwrap();
+            }
+            "setep" => {
+                let (t, q) = l.split_once('\t').unwrap();
+                let mut b = read(t);
+                b.set_en_passant(state(q));
+                write!(out, "{}", b).unwrap();
+            }
+            "uncertain" => {
+                let mut b = read(&l);
+                b.set_uncertain_ep();
+                write!(out, "{}", b).unwrap();
+            }
+            "sequence" => {
+                let mut g = RetractionGen::new_legal(&read(&l));
+                let mut ends = 0;
+                while ends < 3 {
+                    match g.next() {
+                        Some(r) => write!(out, "{} ", pack(&r)).unwrap(),
+                        None => {
+                            ends += 1;
+                            write!(out, "end{}", if ends < 3 { " " } else { "" }).unwrap();
+                        }
+                    }
+                }
+            }
+            "cursor" => write!(out, "{}", press(&l)).unwrap(),
             "unmake" => {
                 let (t, p) = l.split_once('\t').unwrap();
                 let p: usize = p.parse().unwrap();

@@ -1,10 +1,10 @@
--- `ask::fields::decimal` meets its contract.
+-- `ask::fields::number` meets its contract.
 use Prim.Native.Nat.{_-_}
 use native.Mathlib.Omega.{arith}
 use lib.ListN.{length}
 use borrow.Author.Needs.{needs}
-use Rattle.ask.proofs.fields.decimal.Statement.{statement}
-use Rattle.ask.proofs.fields.decimal.Tie as tie
+use Rattle.ask.proofs.fields.number.Statement.{statement}
+use Rattle.ask.proofs.fields.number.Tie as tie
 
 abbrev Inv-loop : tie.InvT-loop
 Inv-loop line at x₀ i₀ x i = Unit {0}
@@ -21,9 +21,6 @@ shared-slice-read-digit c = omega arith
 digit-requires : tie.Need-digit-requires Inv-loop μ-loop
 digit-requires c κs = search needs
 
-least-requires : tie.Need-least-requires Inv-loop μ-loop
-least-requires c κs = search needs
-
 returns : tie.Need-returns Inv-loop μ-loop
 returns c = tt
 
@@ -39,14 +36,11 @@ loop-less c = omega arith
 loop-again : tie.Need-loop-again Inv-loop μ-loop
 loop-again c = tt
 
-least-requires-2 : tie.Need-least-requires-2 Inv-loop μ-loop
-least-requires-2 c κs = search needs
-
 returns-2 : tie.Need-returns-2 Inv-loop μ-loop
 returns-2 c = tt
 
-pub decimal-spec : {M : Type 1} → statement M
-decimal-spec =
+pub number-spec : {M : Type 1} → statement M
+number-spec =
     tie.close
     (tie.spec
     Inv-loop
@@ -54,11 +48,9 @@ decimal-spec =
     loop-holds
     shared-slice-read-digit
     digit-requires
-    least-requires
     returns
     shifted-requires
     add-i
     loop-less
     loop-again
-    least-requires-2
     returns-2)

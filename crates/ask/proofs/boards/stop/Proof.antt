@@ -1,9 +1,9 @@
--- `ask::verbs::stop` meets its contract.
+-- `ask::boards::stop` meets its contract.
 use Prim.Native.Nat.{_-_, _≤_}
 use native.Mathlib.Omega.{arith}
 use lib.ListN.{length}
-use Rattle.ask.proofs.verbs.stop.Statement.{statement}
-use Rattle.ask.proofs.verbs.stop.Tie as tie
+use Rattle.ask.proofs.boards.stop.Statement.{statement}
+use Rattle.ask.proofs.boards.stop.Tie as tie
 
 abbrev Inv-loop : tie.InvT-loop
 Inv-loop line at i₀ i = (at ≤ i) × (i ≤ length line)

@@ -1,0 +1,50 @@
+// Bytes, numbers and sets put behind the first bytes of an answer, which stays as it is where there is no room.
+use accept::Refusal;
+
+pub(super) fn bytes(out: &mut [u8; 65536], len: usize, text: &[u8]) -> usize {
+    feed::put_bytes(out, len, text)
+}
+
+pub(super) fn number(out: &mut [u8; 65536], len: usize, x: u64) -> usize {
+    feed::put_decimal(out, len, x)
+}
+
+// Sixteen hexadecimal digits.
+pub(super) fn set(out: &mut [u8; 65536], len: usize, x: u64) -> usize {
+    feed::put_hex16(out, len, x)
+}
+
+pub(super) fn next_number(out: &mut [u8; 65536], len: usize, x: u64) -> usize {
+    let a = bytes(out, len, b" ");
+    number(out, a, x)
+}
+
+pub(super) fn next_set(out: &mut [u8; 65536], len: usize, x: u64) -> usize {
+    let a = bytes(out, len, b" ");
+    set(out, a, x)
+}
+
+// Six sets, single spaces between.
+pub(super) fn sets(out: &mut [u8; 65536], len: usize, s: [u64; 6]) -> usize {
+    let a = set(out, len, s[0]);
+    let b = next_set(out, a, s[1]);
+    let c = next_set(out, b, s[2]);
+    let d = next_set(out, c, s[3]);
+    let e = next_set(out, d, s[4]);
+    next_set(out, e, s[5])
+}
+
+// `1` or `0`
+pub(super) fn told(out: &mut [u8; 65536], yes: bool) -> usize {
+    if yes {
+        bytes(out, 0, b"1")
+    } else {
+        bytes(out, 0, b"0")
+    }
+}
+
+// `refused N`
+pub(super) fn refused(r: Refusal, out: &mut [u8; 65536]) -> usize {
+    let a = bytes(out, 0, b"refused ");
+    number(out, a, accept::number(r) as u64)
+}

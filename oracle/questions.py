@@ -1,0 +1,217 @@
+"""What `compare` asks: of generated boards, lines for each verb of `ask`. The oracle has to be built before this is imported."""
+import itertools
+from programs import BRUTE, PORTED, ask, load
+
+gen = load('gen')
+
+
+def texts(rng, boards):
+    return [b.text for b in boards]
+
+
+def fields_of(text):
+    """The men of a text in form as eight sets, the turn, the rights, and the state with its square's number."""
+    men, turn, rights, state = text.decode().split(' ')
+    at = [(s, c) for s, c in enumerate(gen.arr(men)) if c != '.']
+    sets = [sum(1 << s for s, c in at if c.upper() == k) for k in 'PNBRQK']
+    sets += [sum(1 << s for s, c in at if c.isupper() == white) for white in (True, False)]
+    return sets, turn, rights, state if state in '-?' else str('abcdefgh'.index(state[0]) + 8 * int(state[1]) - 8)
+
+
+def raw_line(sets, turn, rights, state):
+    return ('%s %s %s %s' % (' '.join('%x' % s for s in sets), turn, rights, state)).encode()
+
+
+def raw(rng, boards):
+    """The men of each text in form, as they are and with a few bits, the rights or the state changed."""
+    return [raw_line(*q) for b in boards if b.refusal != 14 for f in [fields_of(b.text)] for q in (f, bent_men(rng, *f))]
+
+
+def bent_men(rng, sets, turn, rights, state):
+    sets = list(sets)
+    way = rng.randrange(4)
+    if way < 2:
+        square = 1 << rng.randrange(64)
+        for i in rng.sample(range(8), 1 + way):
+            sets[i] ^= square
+    elif way == 2:
+        rights = ''.join(c for c in 'KQkq' if rng.random() < .5) or '-'
+    else:
+        state = rng.choice(['-', '?', str(rng.randrange(24, 40)), str(rng.randrange(256))])
+    return sets, turn, rights, state
+
+
+def unpacked(n):
+    return n % 64, n // 64 % 64, n // 4096 % 8, n >> 15
+
+
+def packed(r):
+    return r[0] + 64 * r[1] + 4096 * r[2] + 32768 * r[3]
+
+
+def written(r):
+    return b'%d,%d,%d,%d' % r
+
+
+def bent(rng, r):
+    """A retraction with one field changed."""
+    i = rng.randrange(4)
+    return r[:i] + ((1 - r[3]) if i == 3 else rng.randrange(8) if i == 2 else rng.randrange(64),) + r[i + 1:]
+
+
+def wild(rng):
+    return rng.randrange(rng.choice([64, 256])), rng.randrange(rng.choice([64, 256])), rng.randrange(rng.choice([6, 256])), rng.randrange(2)
+
+
+def chosen(rng, b):
+    """Retractions to un-make: some of each list, each also bent; some of the retractor's men to anywhere; wild ones."""
+    if b.refusal not in (0, 8):
+        return [wild(rng)]
+    good = [unpacked(n) for l in (b.listed, b.strict) for n in rng.sample(l, min(3, len(l)))]
+    men, turn = b.text.decode().split(' ')[:2]
+    own = [s for s, c in enumerate(gen.arr(men)) if c != '.' and c.isupper() == (turn == 'b')]
+    anywhere = [(rng.choice(own), rng.randrange(64), rng.randrange(7), int(rng.random() < .2)) for _ in range(4)]
+    return good + [bent(rng, r) for r in good] + anywhere + [wild(rng), wild(rng)]
+
+
+def unmake(b, r):
+    return b.text + b'\t' + written(r)
+
+
+def replay(rng, boards, unmade):
+    """Half of the un-made boards with the retraction that led there, once as it was and once with something changed; each text, wildly."""
+    lines = [b.text + b'\t' + written(wild(rng)) + b'\t%d' % rng.randrange(7) for b in boards]
+    for b, r, answer in unmade:
+        if not answer.startswith(b'refused') and rng.random() < .5:
+            man = gen.arr(b.text.decode().split(' ')[0])[r[0]].upper()
+            fields = answer.split(b' ')[:4]
+            kind = '.PNBRQ'.index(man) if r[3] else 0
+            lines.append(b'%s\t%s\t%d' % (b' '.join(fields), written(r), kind))
+            way = rng.randrange(4)
+            if way == 0:
+                kind = rng.randrange(8)
+            elif way == 1:
+                r = bent(rng, r)
+            elif way == 2:
+                fields[2] = b'-'
+            else:
+                fields[3] = rng.choice([b'-', b'?', gen.name(rng.randrange(24, 40)).encode()])
+            lines.append(b'%s\t%s\t%d' % (b' '.join(fields), written(r), kind))
+    return lines
+
+
+def square(rng):
+    return rng.randrange(64) if rng.random() < .8 else rng.randrange(64, 256)
+
+
+def piece(rng, boards):
+    return [b.text + b'\t%d' % square(rng) for b in boards for _ in range(3)]
+
+
+def attacked(rng, boards):
+    return [b.text + b'\t%d\t%s' % (square(rng), rng.choice([b'w', b'b'])) for b in boards for _ in range(3)]
+
+
+def setep(rng, boards):
+    """None, unknown, pawns on the middle ranks, and any number."""
+    lines = []
+    for b in boards:
+        men = gen.arr(b.text.decode().split(' ')[0]) if b.refusal != 14 else []
+        states = [b'-', b'?', b'%d' % rng.randrange(256)] + [b'%d' % s for s, c in enumerate(men) if c in 'Pp' and 24 <= s < 40]
+        lines += [b.text + b'\t' + state for state in rng.sample(states, 3)]
+    return lines
+
+
+def cursor(rng, boards):
+    """Some entries of each list with the cursor anywhere in them, as they are and bent, pressed three times each."""
+    said = ask([PORTED, 'entries'], [b.text for b in boards if b.refusal == 0])
+    lines, asked = [line for s in said for line in cursors(rng, s.decode().split(' '))], []
+    for _ in range(3):
+        asked += lines
+        lines = [pressed.split(b' ', 1)[1] for pressed in ask([BRUTE, 'cursor'], lines)]
+    return asked
+
+
+def cursors(rng, said):
+    """At most ten entries, so that a line has room for them, at the first places or about the last."""
+    masks, entries = said[:6], [e.split(':') for e in rng.sample(said[6:], min(len(said) - 6, rng.randrange(11)))]
+    entries = [['abcdefgh'.index(s[0]) + 8 * int(s[1]) - 8, t, k, m] for s, t, k, m in entries]
+    first = rng.choice([0, 0, 0, 47 - len(entries)])
+    length = first + len(entries)
+    whole = [length, rng.randrange(first, length + 1), rng.randrange(7), masks, [[first + i] + e for i, e in enumerate(entries)]]
+    return [cursor_line(*whole), cursor_line(*bent_cursor(rng, *whole))]
+
+
+def cursor_line(length, index, uncaptured, masks, entries):
+    return ' '.join(['%d %d %d' % (length, index, uncaptured)] + masks + ['%d:%d:%s:%s:%s' % tuple(e) for e in entries]).encode()
+
+
+def bent_cursor(rng, length, index, uncaptured, masks, entries):
+    """Another length, index or number of an uncapture, another mask, or an entry anywhere with any source and targets."""
+    way = rng.randrange(5)
+    if way == 0:
+        length = rng.choice([0, rng.randrange(48), 47, 48, 255, 2 ** 64 - 1])
+    elif way == 1:
+        index = rng.choice([0, rng.randrange(48), length, 47, 48, 255, 2 ** 64 - 1])
+    elif way == 2:
+        uncaptured = rng.choice([0, 5, 6, 7, 255])
+    elif way == 3:
+        masks = [m if rng.random() < .5 else '%x' % rng.getrandbits(64) for m in masks]
+    else:
+        source = rng.choice([63, 64, 255, rng.randrange(64)])
+        targets = rng.choice([0, rng.getrandbits(64), 1 << 63, 2 ** 64 - 1])
+        entries = entries + [[rng.randrange(48), source, '%x' % targets, rng.choice('ONFE'), rng.choice('=.')]]
+    return length, index, uncaptured, masks, entries
+
+
+def gate(rng, boards):
+    """Each text in form as a board of all its fields, twice: its sets worked afresh, or those of other men or another turn, or bent."""
+    boards = [fields_of(b.text) for b in boards if b.refusal != 14 for _ in range(2)]
+    whole, other = [raw_line(*f) for f in boards], [raw_line(*another(rng, *f)) for f in boards]
+    lines = []
+    for men, here, changed, there in zip(whole, ask([BRUTE, 'worked'], whole), other, ask([BRUTE, 'worked'], other)):
+        way = rng.randrange(5)
+        if way == 0:
+            here = bent_worked(rng, here)
+        lines.append((men if way < 3 else changed) + b' ' + (there if way in (2, 4) else here))
+    return lines
+
+
+def another(rng, sets, turn, rights, state):
+    if rng.random() < .3:
+        return sets, 'w' if turn == 'b' else 'b', rights, state
+    return bent_men(rng, sets, turn, rights, state)
+
+
+def bent_worked(rng, worked):
+    """A bit more or less in one of the three sets, or one of them empty."""
+    sets = [int(x, 16) for x in worked.split()]
+    i = rng.randrange(3)
+    sets[i] = rng.choice([0, sets[i] ^ 1 << rng.randrange(64)])
+    return b'%x %x %x' % tuple(sets)
+
+
+def into(length):
+    """Each board into a slice that has just the room, too little or more; a line of `ask` has 512 bytes."""
+    def lines(rng, boards):
+        short = [(b.text, length(b)) for b in boards if len(b.text) < 200]
+        return [text + b'\t%d' % rng.choice([0, max(0, n - 1), n, n, n + 3, rng.randrange(100)]) for text, n in short]
+    return lines
+
+
+NO_VERBS = [b'', b'moves\t', b'\t', b'lists\t', b'raw ', b'piece', b'Count\t', b' strict\t', b'limite\t', b'cursor', b'gate,', b'unmak\xc3\t']
+FIELDS = {'raw': raw, 'piece': piece, 'attacked': attacked, 'setep': setep, 'cursor': cursor, 'gate': gate, 'print': into(lambda b: len(b.text)),
+          'listinto': into(lambda b: len(b.listed)), 'strictinto': into(lambda b: len(b.strict))}
+
+
+def lines_of(verb, rng, boards, unmade):
+    """The questions of a verb; `unmade` has boards, retractions and what un-make answers to them."""
+    if verb == 'unknown':  # words that are no verb, and verbs without their tab, in capitals or behind a space
+        return [w + b.text if w[-1:] in (b'\t', b' ') else w for w, b in zip(itertools.cycle(NO_VERBS), boards)]
+    if verb == 'unmake':
+        fields = [unmake(b, r) for b, r, _ in unmade]
+    elif verb == 'replay':
+        fields = replay(rng, boards, unmade)
+    else:
+        fields = FIELDS.get(verb, texts)(rng, boards)
+    return [verb.encode() + b'\t' + f for f in fields]
