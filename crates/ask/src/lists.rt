@@ -34,7 +34,7 @@ fn put_cursor(g: RetractionGen, out: &mut [u8; 2048]) -> usize {
 
 // Six numbers, single spaces between.
 fn put_masks(masks: [u64; 6], out: &mut [u8; 2048]) -> usize {
-    let a = feed::put_hex16(out, 0, masks[0]);
+    let a = feed::put_hex16(out, 0, masks[0]).used(0);
     let b = put_next(out, a, masks[1]);
     let c = put_next(out, b, masks[2]);
     let d = put_next(out, c, masks[3]);
@@ -43,18 +43,18 @@ fn put_masks(masks: [u64; 6], out: &mut [u8; 2048]) -> usize {
 }
 
 fn put_next(out: &mut [u8; 2048], len: usize, mask: u64) -> usize {
-    let a = feed::put_bytes(out, len, b" ");
-    feed::put_hex16(out, a, mask)
+    let a = feed::put_bytes(out, len, b" ").used(len);
+    feed::put_hex16(out, a, mask).used(a)
 }
 
 // ` square:targets:kind:mark`
 fn put_entry(e: SourceAndTargets, out: &mut [u8; 2048], len: usize) -> usize {
     let name = [b' ', b'a' + e.source % 8, b'1' + e.source / 8, b':'];
-    let a = feed::put_bytes(out, len, &name);
-    let b = feed::put_hex16(out, a, e.targets);
+    let a = feed::put_bytes(out, len, &name).used(len);
+    let b = feed::put_hex16(out, a, e.targets).used(a);
     let kind = e.kind;
     let end = [b':', letter(kind), b':', mark(e.unpromotion)];
-    feed::put_bytes(out, b, &end)
+    feed::put_bytes(out, b, &end).used(b)
 }
 
 fn letter(kind: UnCaptureKind) -> u8 {

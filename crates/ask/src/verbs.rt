@@ -19,7 +19,7 @@ pub(super) fn reply(line: &[u8], out: &mut [u8; 2048]) -> usize
     ensures { λ n. ⌜ n ≤ length (now (out .exit)) ⌝ }
 {
     let n = by_verb(line, out);
-    let end = feed::put_bytes(out, n, b"\n");
+    let end = feed::put_bytes(out, n, b"\n").used(n);
     if end <= 2048 { end } else { 0 }
 }
 
@@ -169,23 +169,23 @@ fn raw_board(line: &[u8], turn: usize, pieces: [u64; 6], colors: [u64; 2]) -> Bo
 
 fn put_count(l: Listed, out: &mut [u8; 2048]) -> usize {
     match l {
-        Listed::Count(n) => feed::put_decimal(out, 0, n as u64),
-        Listed::Room(n) => feed::put_decimal(out, 0, n as u64),
+        Listed::Count(n) => feed::put_decimal(out, 0, n as u64).used(0),
+        Listed::Room(n) => feed::put_decimal(out, 0, n as u64).used(0),
         Listed::Refused(r) => put_refused(r, out),
     }
 }
 
 fn put_strict(c: Counted, out: &mut [u8; 2048]) -> usize {
     match c {
-        Counted::Count(n) => feed::put_decimal(out, 0, n as u64),
+        Counted::Count(n) => feed::put_decimal(out, 0, n as u64).used(0),
         Counted::Refused(r) => put_refused(r, out),
     }
 }
 
 fn put_limited(l: Limited, out: &mut [u8; 2048]) -> usize {
     match l {
-        Limited::Yes => feed::put_bytes(out, 0, b"1"),
-        Limited::No => feed::put_bytes(out, 0, b"0"),
+        Limited::Yes => feed::put_bytes(out, 0, b"1").used(0),
+        Limited::No => feed::put_bytes(out, 0, b"0").used(0),
         Limited::Refused(r) => put_refused(r, out),
     }
 }
@@ -243,8 +243,8 @@ fn earlier(raw: Raw) -> Boarded {
 }
 
 pub(super) fn put_refused(r: Refusal, out: &mut [u8; 2048]) -> usize {
-    let a = feed::put_bytes(out, 0, b"refused ");
-    feed::put_decimal(out, a, accept::number(r) as u64)
+    let a = feed::put_bytes(out, 0, b"refused ").used(0);
+    feed::put_decimal(out, a, accept::number(r) as u64).used(a)
 }
 
 // The text of a board, which may fail 6.
@@ -282,10 +282,10 @@ fn put_unmade(b: Boarded, out: &mut [u8; 2048]) -> usize {
         Verdict::Refused(_) => n,
         Verdict::Accepted => {
             let board = b.board;
-            let s = feed::put_bytes(out, n, b" ");
-            let c = feed::put_hex16(out, s, board.checkers);
-            let e = feed::put_bytes(out, c, b" ");
-            feed::put_hex16(out, e, board.pinned)
+            let s = feed::put_bytes(out, n, b" ").used(n);
+            let c = feed::put_hex16(out, s, board.checkers).used(s);
+            let e = feed::put_bytes(out, c, b" ").used(c);
+            feed::put_hex16(out, e, board.pinned).used(e)
         }
     }
 }
