@@ -24,7 +24,8 @@ use Rattle.text.specs.declared.Printed.the-variants.{Count, Room, Refused as no
 use Rattle.text.specs.Entries.{Reads, textOn, printedBy, leftBy, printedOf, leftOf}
 use Rattle.retraction_gen.specs.Making.{listOn, fullBy}
 use Rattle.retraction_gen.specs.Sequence.{sequenceOn}
-use Rattle.feed.specs.Appending.{Adds, AddsDecimal}
+use Rattle.feed.specs.declared.Put.{Put}
+use Rattle.feed.specs.Appending.{usedOf, PutsDecimal, Adds}
 use Rattle.report.specs.Report.{decimalOf, reportOf}
 use Rattle.strict.specs.Demand.{IsStrictList, strictMoves}
 use Rattle.answer.specs.Replies.{word, newline, refusedText, strictText, listsText, replyBy, Shows, ShowsStrict, ShowsBoard, Replies}
@@ -43,11 +44,11 @@ counts : (n : ℕ) (o : List ℕ) → n ≤ length o → Counts n o
 counts n o h = (h, sym (length-take-le n o h))
 
 -- `refused N`
-pub refused-shown : (r : Refusal) (o o₁ o₂ o₃ : List ℕ) (a d n x : ℕ) → length o ≡ 196608 → x < 2 ^ 64 → Adds o 0 word a o₁ → x ≡ numberOf r
-    → AddsDecimal o₁ a x d o₂ → Adds o₂ d newline n o₃ → Shows (refusedText r) n o₃
-refused-shown r o o₁ o₂ o₃ a d n x l f p e q w =
-    let s : length (decimalOf x) ≤ 20 = decimal-short o₁ o₂ a x d f q in
-    let q′ : Adds o₁ a (decimalOf x) d o₂ = decimal-added o₁ o₂ a x d f q in
+pub refused-shown : (r : Refusal) (o o₁ o₂ o₃ : List ℕ) (a d n x : ℕ) (v : Put) → length o ≡ 196608 → x < 2 ^ 64 → Adds o 0 word a o₁ → x ≡ numberOf r
+    → PutsDecimal o₁ a x v o₂ → d ≡ usedOf v a → Adds o₂ d newline n o₃ → Shows (refusedText r) n o₃
+refused-shown r o o₁ o₂ o₃ a d n x v l f p e q u w =
+    let s : length (decimalOf x) ≤ 20 = decimal-short o₁ o₂ a x v f q in
+    let q′ : Adds o₁ a (decimalOf x) d o₂ = decimal-added o₁ o₂ a x v f q d u in
     let h₁ : 0 + length word ≤ length o = omega arith in
     let a₁ = added-len o word o₁ 0 a p h₁ in
     let l₁ = added-length o word o₁ 0 a p h₁ in

@@ -20,8 +20,8 @@ fn put_lists(b: RetractableBoard, listed: &[u16], strict: &[u16], out: &mut [u8;
     let p = text::print(b, out);
     match p {
         Printed::Count(n) => {
-            let end = feed::put_bytes(out, n, b"\n");
-            report::report(out, end, listed, strict)
+            let end = feed::put_bytes(out, n, b"\n").used(n);
+            report::report(out, end, listed, strict).used(end)
         }
         Printed::Room(_) => 0,
         Printed::Refused(why) => super::put_refused(why, out),

@@ -12,10 +12,10 @@ pub mod inner; // inner.rt: the answer of a board that its gate let pass
 pub fn put_refused(r: Refusal, out: &mut [u8; 196608]) -> usize
     ensures { λ n. ⌜ Shows (refusedText r) n (now (out .exit)) ⌝ }
 {
-    let a = feed::put_bytes(out, 0, b"refused ");
+    let a = feed::put_bytes(out, 0, b"refused ").used(0);
     let number = accept::number(r) as u64;
-    let d = feed::put_decimal(out, a, number);
-    feed::put_bytes(out, d, b"\n")
+    let d = feed::put_decimal(out, a, number).used(a);
+    feed::put_bytes(out, d, b"\n").used(d)
 }
 
 // The first bytes of `out` are the answer to a line; answers how many. What the slots held before does not matter.

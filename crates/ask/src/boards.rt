@@ -3,9 +3,11 @@ use super::fields;
 use super::puts;
 use accept::Refusal;
 use accept::Verdict;
+use board::AttackTold;
 use board::Attacked;
 use board::Boarded;
 use board::PieceOn;
+use board::PieceTold;
 use board::RetractableBoard;
 use laws::Piece;
 use text::Copied;
@@ -31,7 +33,7 @@ fn stop(line: &[u8], at: usize) -> usize
 // The board of the text at a place.
 pub(super) fn read(line: &[u8], at: usize) -> Boarded {
     if at > line.len() {
-        return board::board_by(Verdict::Refused(Refusal::Text), board::no_board());
+        return board::inner::board_by(Verdict::Refused(Refusal::Text), board::no_board());
     }
     let end = stop(line, at);
     text::read(&line[at..end])
@@ -40,7 +42,7 @@ pub(super) fn read(line: &[u8], at: usize) -> Boarded {
 // The same by refusals 14 and 1 to 5 alone.
 fn read_earlier(line: &[u8], at: usize) -> Boarded {
     if at > line.len() {
-        return board::board_by(Verdict::Refused(Refusal::Text), board::no_board());
+        return board::inner::board_by(Verdict::Refused(Refusal::Text), board::no_board());
     }
     let end = stop(line, at);
     earlier(text::inner::read_raw(&line[at..end]))
@@ -49,7 +51,7 @@ fn read_earlier(line: &[u8], at: usize) -> Boarded {
 fn earlier(raw: Raw) -> Boarded {
     let form = raw.verdict;
     match form {
-        text::Verdict::OutOfForm => board::board_by(
+        text::Verdict::OutOfForm => board::inner::board_by(
             Verdict::Refused(Refusal::Text),
             board::no_board(),
         ),
@@ -60,7 +62,8 @@ fn earlier(raw: Raw) -> Boarded {
             let white = raw.white;
             let black = raw.black;
             let passant = raw.passant;
-            RetractableBoard::earlier(pieces, colors, turn, white, black, passant)
+            let t = tables::between_table();
+            board::inner::earlier_from(&t, pieces, colors, turn, white, black, passant)
         }
     }
 }
@@ -107,7 +110,8 @@ pub(super) fn put_unmade(b: Boarded, out: &mut [u8; 65536]) -> usize {
 }
 
 // The kind's letter, or `.`
-pub(super) fn put_piece(p: PieceOn, out: &mut [u8; 65536]) -> usize {
+pub(super) fn put_piece(told: PieceTold, out: &mut [u8; 65536]) -> usize {
+    let p = told.answer;
     match p {
         PieceOn::Nobody => puts::bytes(out, 0, b"."),
         PieceOn::Kind(k) => puts::bytes(out, 0, &[letter(k)]),
@@ -126,7 +130,8 @@ fn letter(k: Piece) -> u8 {
     }
 }
 
-pub(super) fn put_attacked(a: Attacked, out: &mut [u8; 65536]) -> usize {
+pub(super) fn put_attacked(told: AttackTold, out: &mut [u8; 65536]) -> usize {
+    let a = told.answer;
     match a {
         Attacked::Yes => puts::told(out, true),
         Attacked::No => puts::told(out, false),

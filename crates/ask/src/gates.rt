@@ -4,9 +4,11 @@ use super::boards;
 use super::puts;
 use accept::Refusal;
 use accept::Verdict;
+use board::AttackTold;
 use board::Attacked;
 use board::Boarded;
 use board::PieceOn;
+use board::PieceTold;
 use board::RetractableBoard;
 use laws::ChessRetraction;
 use laws::Color;
@@ -33,7 +35,7 @@ fn put_methods(b: RetractableBoard, out: &mut [u8; 65536]) -> usize {
         uncaptured: 0,
         unpromotion: false,
     };
-    let h = puts::number(out, 0, of_verdict(b.judge()));
+    let h = puts::number(out, 0, of_board(b.judge()));
     let i = puts::next_number(out, h, of_piece(b.piece_on(64)));
     let j = puts::next_number(out, i, of_attacked(b.is_attacked(64, Color::White)));
     let k = puts::next_number(out, j, of_board(b.set_en_passant(EnPassantFlag::Some(64))));
@@ -85,7 +87,8 @@ fn of_board(b: Boarded) -> u64 {
     of_verdict(v)
 }
 
-fn of_piece(p: PieceOn) -> u64 {
+fn of_piece(told: PieceTold) -> u64 {
+    let p = told.answer;
     match p {
         PieceOn::Nobody => 0,
         PieceOn::Kind(_) => 0,
@@ -93,7 +96,8 @@ fn of_piece(p: PieceOn) -> u64 {
     }
 }
 
-fn of_attacked(a: Attacked) -> u64 {
+fn of_attacked(told: AttackTold) -> u64 {
+    let a = told.answer;
     match a {
         Attacked::Yes => 0,
         Attacked::No => 0,

@@ -2,16 +2,16 @@
 use accept::Refusal;
 
 pub(super) fn bytes(out: &mut [u8; 65536], len: usize, text: &[u8]) -> usize {
-    feed::put_bytes(out, len, text)
+    feed::put_bytes(out, len, text).used(len)
 }
 
 pub(super) fn number(out: &mut [u8; 65536], len: usize, x: u64) -> usize {
-    feed::put_decimal(out, len, x)
+    feed::put_decimal(out, len, x).used(len)
 }
 
 // Sixteen hexadecimal digits.
 pub(super) fn set(out: &mut [u8; 65536], len: usize, x: u64) -> usize {
-    feed::put_hex16(out, len, x)
+    feed::put_hex16(out, len, x).used(len)
 }
 
 pub(super) fn next_number(out: &mut [u8; 65536], len: usize, x: u64) -> usize {

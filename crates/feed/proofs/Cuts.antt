@@ -1,21 +1,18 @@
 -- Bytes copied one by one, and the search for a newline.
-use mathlib.Core.Path.{_≡_, refl, sym, _∙_, ap, ap₂, subst}
+use mathlib.Core.Path.{_≡_, refl, sym, _∙_, ap, ap₂}
 use mathlib.Core.Bool.{Bool, cond, true, false, _||_}
 use mathlib.Core.List.{List}
 use mathlib.Core.Logic.{_⊎_, inl, inr, ⊎-elim}
-use Prim.Native.Nat.{ℕ, zero, suc, _^_, _+_, _-_, _≤_, _<_, min}
-use native.Mathlib.Nat.{le-antisymm, pow-le-pow-right}
+use Prim.Native.Nat.{ℕ, zero, suc, _+_, _-_, _≤_, _<_, min}
 use native.Mathlib.Omega.{arith}
 use native.Mathlib.Numerals.{add-one}
-use lib.Dec.{eqb, leb, ltb}
-use lib.ListN.{length, getD, take, drop, set, length-drop}
+use lib.Dec.{eqb, ltb}
+use lib.ListN.{length, getD, drop, set, length-drop}
 use lib.Seq.{paste, paste-suc, getD-drop}
-use borrow.Author.Tests.{eq-eqb, ne-eqb, le-leb, lt-leb, eqb-true, eqb-false, ltb-true, ltb-false, leb-true, leb-false}
+use borrow.Author.Tests.{eq-eqb, ne-eqb, eqb-true, eqb-false, ltb-true, ltb-false}
 use Rattle.squares.specs.Tests.{_or_}
-use Rattle.io.specs.Digits.{digits, Fewest}
 use Rattle.feed.specs.declared.Part.{Part}
 use Rattle.feed.specs.Splitting.{stopFrom, stopOf, keptOf, cutOf, lineOf}
-use Rattle.feed.specs.Appending.{addedLen, addedOut, Adds, AddsDecimal}
 
 -- one more byte of s is in o
 pub copy-more : (o : List ℕ) (at : ℕ) (s : List ℕ) (from j : ℕ) → at + j < length o → from + j < length s
@@ -40,23 +37,6 @@ module _ (s : List ℕ) (i end : ℕ) where
   pub stop-end : end ≤ i → stopFrom s i (end - i) ≡ i
   unfolding stopFrom
   stop-end h = let e : end - i ≡ 0 = omega arith in rw e
-
--- bytes that have room behind the first `len` are added, others are not
-module _ (o b : List ℕ) (len : ℕ) where
-  pub adds : len + length b ≤ length o → (x : List ℕ) → x ≡ paste o len b (length b) → Adds o len b (len + length b) x
-  adds h x e =
-      let k : leb (len + length b) (length o) ≡ true = le-leb (len + length b) (length o) h in
-      record { used = rw k; holds = e ∙ rw k }
-
-  pub adds-none : length o < len + length b → Adds o len b len o
-  adds-none h =
-      let k : leb (len + length b) (length o) ≡ false = lt-leb (len + length b) (length o) h in
-      record { used = rw k; holds = rw k }
-
--- the digits of a number are added, as the text of them
-pub adds-digits : (o t : List ℕ) (b len x k n r : ℕ) (after : List ℕ) → Adds o len (take k t) r after → take k t ≡ digits b k x → k ≡ n → Adds o len (digits b n x) r after
-adds-digits o t b len x k n r after a e h =
-    subst (λ (l : List ℕ). Adds o len l r after) (e ∙ ap (λ (i : ℕ). digits b i x) h) a
 
 -- the parts of a cut, worked out one by one
 abbrev cutBy : Part → ℕ → ℕ → Part
@@ -118,35 +98,3 @@ stop-first s at (suc n) k a b e = go (eqb (getD s at 0) 10) refl (stopFrom s (su
     go : (t : Bool) → eqb (getD s at 0) 10 ≡ t → (i : ℕ) → (suc at ≤ k → k < i → ⊥) → k < cond t at i → ⊥
     go true d i f h = omega arith
     go false d i f h = ⊎-elim (λ q. eqb-false (getD s at 0) 10 d (ap (λ (u : ℕ). getD s u 0) q ∙ e)) (λ q. f q h) (above at k a)
-
--- a number has one fewest count of digits, so that its decimal digits are added in one way
-pub fewest-one : (b x i j : ℕ) → 1 < b → Fewest b 1 x i → Fewest b 1 x j → i ≡ j
-fewest-one b x i j h p q = le-antisymm (below p q) (below q p)
-  where
-    below : {m n : ℕ} → Fewest b 1 x m → Fewest b 1 x n → m ≤ n
-    below {m} {n} p q = by (leb m n) refl
-      where
-        by : (t : Bool) → leb m n ≡ t → m ≤ n
-        by true e = leb-true m n e
-        by false e =
-            let l = leb-false m n e in
-            let u : b ^ (m - 1) ≤ x = p .2 (omega arith) in
-            let w : b ^ n ≤ b ^ (m - 1) = pow-le-pow-right (omega arith) (omega arith) in
-            absurd (omega (arith, q .1))
-
--- sixteen hexadecimal digits hold any number of 64 bits
-pub sixteen : (x k : ℕ) → x < 2 ^ 64 → Fewest 16 16 x k → k ≡ 16
-sixteen x k h p = le-antisymm (by (leb k 16) refl) (p .0)
-  where
-    by : (t : Bool) → leb k 16 ≡ t → k ≤ 16
-    by true e = leb-true k 16 e
-    by false e =
-        let l = leb-false k 16 e in
-        let u : 16 ^ (k - 1) ≤ x = p .2 (omega arith) in
-        let w : 16 ^ 16 ≤ 16 ^ (k - 1) = pow-le-pow-right {n = 16} (omega arith) {i = 16} {j = k - 1} (omega arith) in
-        absurd (omega arith)
-
-pub decimal-one : (o : List ℕ) (len x r s : ℕ) (a b : List ℕ) → AddsDecimal o len x r a → AddsDecimal o len x s b → (r ≡ s) × (a ≡ b)
-decimal-one o len x r s a b p q =
-    let e = ap (λ (k : ℕ). digits 10 k x) (fewest-one 10 x (p .places) (q .places) (omega arith) (p .fewest) (q .fewest)) in
-    (p .adds .used ∙ ap (addedLen o len) e ∙ sym (q .adds .used), p .adds .holds ∙ ap (addedOut o len) e ∙ sym (q .adds .holds))

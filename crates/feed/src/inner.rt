@@ -3,7 +3,7 @@ use super::Part;
 ghost use mathlib.Core.Path.{_≡_};
 ghost use mathlib.Core.Bool.{cond};
 ghost use Prim.Native.Nat.{_+_, _-_, _≤_, min};
-ghost use lib.Dec.{ltb};
+ghost use lib.Dec.{leb, ltb};
 ghost use lib.ListN.{length, drop};
 ghost use lib.Seq.{paste};
 ghost use Rattle.feed.specs.Splitting.{stopFrom, cutOf, lineOf, Fit};
@@ -18,6 +18,16 @@ pub fn copy(out: &mut [u8], at: usize, src: &[u8], from: usize, n: usize)
         out[at + j] = src[from + j];
         j += 1;
     }
+}
+
+// Whether n bytes have room behind the first `len` of `have`. It subtracts, as the sum need not fit.
+pub fn has_room(have: usize, len: usize, n: usize) -> bool
+    ensures { λ r. ⌜ r ≡ leb (len + n) have ⌝ }
+{
+    if have < len {
+        return false;
+    }
+    n <= have - len
 }
 
 // The place of the first newline from `at` on, or `end`.

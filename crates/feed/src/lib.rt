@@ -4,7 +4,7 @@ ghost use mathlib.Core.Path.{_≡_};
 ghost use Prim.Native.Nat.{_≤_};
 ghost use Rattle.io.specs.Digits.{digits};
 ghost use Rattle.feed.specs.Splitting.{Fit, Sound};
-ghost use Rattle.feed.specs.Appending.{Adds, AddsDecimal};
+ghost use Rattle.feed.specs.Appending.{usedOf, Puts, PutsDecimal};
 
 pub mod inner; // inner.rt: a line cut out of what was read, and a copy into a buffer
 
@@ -140,25 +140,39 @@ fn step_of(p: Part) -> Step
     Step::End
 }
 
-// Bytes behind the first `len` of a buffer; answers how many are then in use.
-pub fn put_bytes(out: &mut [u8], len: usize, bytes: &[u8]) -> usize
-    ensures { λ r. ⌜ Adds (now (out .entry)) len (now (bytes .entry)) r (now (out .exit)) ⌝ }
+// What putting bytes into a buffer answers: how many of its bytes are then in use, or, where it has no room for them, how many it needs.
+pub enum Put {
+    Count(usize),
+    Room(usize),
+}
+
+impl Put {
+    // How many bytes are in use then: `len`, as before, where there was no room.
+    pub fn used(self, len: usize) -> usize
+        ensures { λ r. ⌜ r ≡ usedOf self len ⌝ }
+    {
+        match self {
+            Put::Count(n) => n,
+            Put::Room(_) => len,
+        }
+    }
+}
+
+// Bytes behind the first `len` of a buffer, all or none.
+pub fn put_bytes(out: &mut [u8], len: usize, bytes: &[u8]) -> Put
+    ensures { λ r. ⌜ Puts (now (out .entry)) len (now (bytes .entry)) r (now (out .exit)) ⌝ }
 {
     let n = bytes.len();
-    let have = out.len();
-    if have < len {
-        return len;
-    }
-    if have - len < n {
-        return len;
+    if !inner::has_room(out.len(), len, n) {
+        return Put::Room(n);
     }
     inner::copy(out, len, bytes, 0, n);
-    len + n
+    Put::Count(len + n)
 }
 
 // The sixteen hexadecimal digits of a number.
-pub fn put_hex16(out: &mut [u8], len: usize, x: u64) -> usize
-    ensures { λ r. ⌜ Adds (now (out .entry)) len (digits 16 16 x) r (now (out .exit)) ⌝ }
+pub fn put_hex16(out: &mut [u8], len: usize, x: u64) -> Put
+    ensures { λ r. ⌜ Puts (now (out .entry)) len (digits 16 16 x) r (now (out .exit)) ⌝ }
 {
     let mut text = [0u8; 16];
     let k = io::hex(x, 16, &mut text);
@@ -166,8 +180,8 @@ pub fn put_hex16(out: &mut [u8], len: usize, x: u64) -> usize
 }
 
 // The decimal digits of a number.
-pub fn put_decimal(out: &mut [u8], len: usize, x: u64) -> usize
-    ensures { λ r. ⌜ AddsDecimal (now (out .entry)) len x r (now (out .exit)) ⌝ }
+pub fn put_decimal(out: &mut [u8], len: usize, x: u64) -> Put
+    ensures { λ r. ⌜ PutsDecimal (now (out .entry)) len x r (now (out .exit)) ⌝ }
 {
     let mut text = [0u8; 20];
     let k = io::decimal(x, &mut text);

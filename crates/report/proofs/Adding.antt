@@ -9,11 +9,9 @@ use native.Mathlib.Omega.{arith}
 use lib.Dec.{leb}
 use lib.ListN.{length, getD, take, drop, length-append, take-append-drop}
 use lib.Seq.{paste, paste-zero, take-length, take-suc, drop-drop, drop-paste}
-use borrow.Author.Tests.{le-leb}
 use Rattle.squares.specs.Members.{concat}
 use Rattle.feed.specs.Appending.{Adds}
-use Rattle.feed.proofs.Cuts.{adds}
-use Rattle.feed.proofs.Added.{added-len, added-bytes, added-length}
+use Rattle.feed.proofs.Added.{adds, added-len, added-out, added-bytes, added-length}
 
 pub adds-as : (o x b d : List ℕ) (len r : ℕ) → Adds o len b r x → b ≡ d → Adds o len d r x
 adds-as o x b d len r a e = subst (λ (t : List ℕ). Adds o len t r x) e a
@@ -44,7 +42,7 @@ module _ (o x y b c : List ℕ) (len r s : ℕ) (room : len + length (b ++ c) �
   -- what stands behind the first bytes stands there still
   behind : drop (r + length c) x ≡ drop (len + length (b ++ c)) o
   behind =
-      let e : x ≡ paste o len b (length b) = p .holds ∙ rw (le-leb (len + length b) (length o) first) in
+      let e = added-out o b x len r p first in
       let k : len + length b + length c ≡ len + length (b ++ c) = omega (arith, length-append b c) in
       sym (drop-drop (length c) r x)
       ∙ ap (drop (length c)) (ap₂ drop used e ∙ drop-paste o len b (length b) (omega arith) (le-refl (length b)))
@@ -54,7 +52,7 @@ module _ (o x y b c : List ℕ) (len r s : ℕ) (room : len + length (b ++ c) �
   pub adds-then : Adds o len (b ++ c) s y
   adds-then =
       let e : s ≡ len + length (b ++ c) = omega (arith, length-append b c, used, added-len x c y r s q second) in
-      let y-is : y ≡ paste x r c (length c) = q .holds ∙ rw (le-leb (r + length c) (length x) second) in
+      let y-is = added-out x c y r s q second in
       let front : take r x ++ take (length c) c ≡ take len o ++ take (length (b ++ c)) (b ++ c) =
       ap₂ (λ (i j : List ℕ). i ++ j) (added-bytes o b x len r p first) (take-length c)
       ∙ append-assoc (take len o) b c ∙ ap (λ (i : List ℕ). take len o ++ i) (sym (take-length (b ++ c))) in

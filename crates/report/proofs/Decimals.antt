@@ -11,9 +11,9 @@ use lib.Seq.{length-take-le}
 use borrow.Author.Tests.{ltb-true, ltb-false, leb-true, leb-false}
 use Rattle.io.specs.Digits.{glyph, digits, Fewest}
 use Rattle.io.specs.Counts.{Counts}
-use Rattle.feed.specs.Appending.{Adds, AddsDecimal}
-use Rattle.feed.proofs.Cuts.{fewest-one}
-use Rattle.feed.proofs.Added.{added-len, added-bytes, added-length}
+use Rattle.feed.specs.declared.Put.{Put}
+use Rattle.feed.specs.Appending.{usedOf, Puts, PutsDecimal, Adds}
+use Rattle.feed.proofs.Added.{used-adds, added-len, added-bytes, added-length, fewest-one}
 use Rattle.report.specs.Report.{decimalIn, decimalOf, listedWord, strictWord, headOf}
 use Rattle.report.proofs.Adding.{adds-then}
 
@@ -62,25 +62,28 @@ twenty x k h p = by (leb k 20) refl
         let w : 10 ^ 20 ≤ 10 ^ (k - 1) = pow-le-pow-right {n = 10} (omega arith) {i = 20} {j = k - 1} (omega arith) in
         absurd (omega arith)
 
-module _ (o after : List ℕ) (len x r : ℕ) (h : x < 2 ^ 64) (a : AddsDecimal o len x r after) where
+module _ (o after : List ℕ) (len x : ℕ) (r : Put) (h : x < 2 ^ 64) (a : PutsDecimal o len x r after) where
   same : digits 10 (a .places) x ≡ decimalOf x
   same = digits-are (suc x) x (a .places) (omega arith) (a .fewest)
 
-  pub decimal-added : Adds o len (decimalOf x) r after
-  decimal-added = subst (λ (t : List ℕ). Adds o len t r after) same (a .adds)
+  pub decimal-added : (u : ℕ) → u ≡ usedOf r len → Adds o len (decimalOf x) u after
+  decimal-added u e =
+      used-adds o (decimalOf x) after len r (subst (λ (t : List ℕ). Puts o len t r after) same (a .puts)) u e
 
   pub decimal-short : length (decimalOf x) ≤ 20
   decimal-short = omega (arith, ap length same, length-digits (a .places) x, twenty x (a .places) h (a .fewest))
 
 -- the head, in a buffer of 64
-module _ (o o₁ o₂ o₃ o₄ o₅ : List ℕ) (a b n₁ n₂ n₃ n₄ n : ℕ) (l : length o ≡ 64) (ha : a < 2 ^ 64) (hb : b < 2 ^ 64) (p₁ : Adds o 0 listedWord n₁ o₁)
-    (p₂ : AddsDecimal o₁ n₁ a n₂ o₂) (p₃ : Adds o₂ n₂ strictWord n₃ o₃) (p₄ : AddsDecimal o₃ n₃ b n₄ o₄) (p₅ : Adds o₄ n₄ (10 ∷ []) n o₅) where
+module _ (o o₁ o₂ o₃ o₄ o₅ : List ℕ) (a b n₁ n₂ n₃ n₄ n : ℕ) (r s : Put) (l : length o ≡ 64) (ha : a < 2 ^ 64) (hb : b < 2 ^ 64) (p₁ : Adds o 0 listedWord n₁ o₁)
+    (p₂ : PutsDecimal o₁ n₁ a r o₂) (u₂ : n₂ ≡ usedOf r n₁) (p₃ : Adds o₂ n₂ strictWord n₃ o₃) (p₄ : PutsDecimal o₃ n₃ b s o₄) (u₄ : n₄ ≡ usedOf s n₃)
+    (p₅ : Adds o₄ n₄ (10 ∷ []) n o₅) where
   short : (length (decimalOf a) ≤ 20) × (length (decimalOf b) ≤ 20)
-  short = (decimal-short o₁ o₂ n₁ a n₂ ha p₂, decimal-short o₃ o₄ n₃ b n₄ hb p₄)
+  short = (decimal-short o₁ o₂ n₁ a r ha p₂, decimal-short o₃ o₄ n₃ b s hb p₄)
 
   two : Adds o 0 (listedWord ++ decimalOf a) n₂ o₂
   two =
-      adds-then o o₁ o₂ listedWord (decimalOf a) 0 n₁ n₂ (simp length-append (omega (arith, short))) p₁ (decimal-added o₁ o₂ n₁ a n₂ ha p₂)
+      adds-then o o₁ o₂ listedWord (decimalOf a) 0 n₁ n₂ (simp length-append (omega (arith, short))) p₁
+      (decimal-added o₁ o₂ n₁ a r ha p₂ n₂ u₂)
 
   three : Adds o 0 (listedWord ++ decimalOf a ++ strictWord) n₃ o₃
   three = adds-then o o₂ o₃ (listedWord ++ decimalOf a) strictWord 0 n₂ n₃ (simp length-append (omega (arith, short))) two p₃
@@ -88,7 +91,7 @@ module _ (o o₁ o₂ o₃ o₄ o₅ : List ℕ) (a b n₁ n₂ n₃ n₄ n : �
   four : Adds o 0 (listedWord ++ decimalOf a ++ strictWord ++ decimalOf b) n₄ o₄
   four =
       adds-then o o₃ o₄ (listedWord ++ decimalOf a ++ strictWord) (decimalOf b) 0 n₃ n₄ (simp length-append (omega (arith, short))) three
-      (decimal-added o₃ o₄ n₃ b n₄ hb p₄)
+      (decimal-added o₃ o₄ n₃ b s hb p₄ n₄ u₄)
 
   room : length (headOf a b) ≤ 64
   room = simp length-append (omega (arith, short))

@@ -2,13 +2,12 @@
 use mathlib.Core.Path.{_≡_, refl, sym, _∙_, ap, ap₂}
 use mathlib.Core.Bool.{Bool, true, false, cond}
 use mathlib.Core.List.{List, [], _∷_, _++_}
-use Prim.Native.Nat.{ℕ, zero, suc, _+_, _-_, _*_, _/_, _≤_, _<_}
+use Prim.Native.Nat.{ℕ, zero, suc, _+_, _*_, _≤_, _<_}
 use native.Mathlib.Numerals.{add-one}
 use native.Mathlib.Omega.{arith}
-use lib.Dec.{leb}
 use lib.ListN.{length, getD, drop, length-append}
 use lib.Seq.{drop-cons, drop-length}
-use borrow.Author.Tests.{eq-eqb, ne-eqb, leb-true, leb-false, le-leb, lt-leb}
+use borrow.Author.Tests.{eq-eqb, ne-eqb}
 use Rattle.squares.specs.Tests.{_or_}
 use Rattle.squares.specs.Squares.{file, rank}
 use Rattle.squares.specs.Members.{concat}
@@ -59,12 +58,3 @@ pub listed-size : (strict l : List ℕ) → length (concat (listedRow strict) l)
 unfolding concat
 listed-size strict [] = refl
 listed-size strict (x ∷ l) = omega (arith, length-append (listedRow strict x) (concat (listedRow strict) l), listed-size strict l)
-
--- b rows have room behind a rows exactly when they are among those that have room
-pub fits-is : (have len head a b : ℕ) → len ≤ have → head ≤ have - len → a ≤ (have - len - head) / 11
-    → leb b ((have - len - head) / 11 - a) ≡ leb (len + head + 11 * a + 11 * b) have
-fits-is have len head a b h k l = by (leb b ((have - len - head) / 11 - a)) refl
-  where
-    by : (t : Bool) → leb b ((have - len - head) / 11 - a) ≡ t → t ≡ leb (len + head + 11 * a + 11 * b) have
-    by true e = let w = leb-true b ((have - len - head) / 11 - a) e in sym (le-leb (len + head + 11 * a + 11 * b) have (omega arith))
-    by false e = let w = leb-false b ((have - len - head) / 11 - a) e in sym (lt-leb (len + head + 11 * a + 11 * b) have (omega arith))

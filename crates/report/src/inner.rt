@@ -1,8 +1,7 @@
-// The head, the rows, and whether there is room for them.
+// The head, the rows, and how many bytes they have.
 use laws::ChessRetraction;
 ghost use mathlib.Core.Path.{_≡_};
-ghost use Prim.Native.Nat.{_+_, _*_, _≤_};
-ghost use lib.Dec.{leb};
+ghost use Prim.Native.Nat.{_+_, _*_, _≤_, min};
 ghost use lib.ListN.{length, take};
 ghost use Rattle.io.specs.Counts.{Counts};
 ghost use Rattle.feed.specs.Appending.{Adds};
@@ -67,7 +66,7 @@ fn put_row(out: &mut [u8], len: usize, slot: u16, sign: u8) -> usize
     ensures { λ r. ⌜ Adds (now (out .entry)) len (rowOf slot sign) r (now (out .exit)) ⌝ }
 {
     let bytes = row(slot, sign);
-    feed::put_bytes(out, len, &bytes)
+    feed::put_bytes(out, len, &bytes).used(len)
 }
 
 // `+` in both, `-` listed only.
@@ -145,26 +144,23 @@ pub fn count_strict(strict: &[u16], listed: &[u16]) -> usize
 pub fn put_head(out: &mut [u8; 64], a: u64, b: u64) -> usize
     ensures { λ r. ⌜ Counts r (now (out .exit)) × (take r (now (out .exit)) ≡ headOf a b) ⌝ }
 {
-    let listed = feed::put_bytes(out, 0, b"listed ");
-    let first = feed::put_decimal(out, listed, a);
-    let strict = feed::put_bytes(out, first, b" strict ");
-    let second = feed::put_decimal(out, strict, b);
-    feed::put_bytes(out, second, b"\n")
+    let listed = feed::put_bytes(out, 0, b"listed ").used(0);
+    let first = feed::put_decimal(out, listed, a).used(listed);
+    let strict = feed::put_bytes(out, first, b" strict ").used(first);
+    let second = feed::put_decimal(out, strict, b).used(strict);
+    feed::put_bytes(out, second, b"\n").used(second)
 }
 
-// Whether a head and a + b rows of 11 bytes have room behind the first `len` of `have` bytes. It divides, as the product need not fit.
-pub fn fits(have: usize, len: usize, head: usize, a: usize, b: usize) -> bool
-    ensures { λ r. ⌜ r ≡ leb (len + head + 11 * a + 11 * b) have ⌝ }
+// How many bytes a head and a + b rows of 11 bytes have, as far as a usize counts them.
+pub fn size(head: usize, a: usize, b: usize) -> usize
+    ensures { λ r. ⌜ r ≡ min (head + 11 * a + 11 * b) 18446744073709551615 ⌝ }
 {
-    if have < len {
-        return false;
-    }
-    if have - len < head {
-        return false;
-    }
-    let rows = (have - len - head) / 11;
+    let rows = (usize::MAX - head) / 11;
     if rows < a {
-        return false;
+        return usize::MAX;
     }
-    b <= rows - a
+    if rows - a < b {
+        return usize::MAX;
+    }
+    head + 11 * (a + b)
 }

@@ -1,10 +1,11 @@
 -- `answer::put_refused` meets its contract.
-use native.Mathlib.Omega.{arith}
 use mathlib.Core.Path.{_≡_}
+use native.Mathlib.Omega.{arith}
 use lib.ListN.{length}
-use denote.Ref.{now}
-use Rattle.answer.proofs.Spoken.{refused-shown}
 use borrow.Author.Needs.{needs}
+use denote.Ref.{now}
+use Rattle.feed.proofs.Added.{used-adds}
+use Rattle.answer.proofs.Spoken.{refused-shown}
 use Rattle.answer.proofs.put_refused.Statement.{statement}
 use Rattle.answer.proofs.put_refused.Tie as tie
 
@@ -13,6 +14,9 @@ slice-aggregate-put-bytes c = search needs
 
 put-bytes-requires : tie.Need-put-bytes-requires
 put-bytes-requires c κs = search needs
+
+used-requires : tie.Need-used-requires
+used-requires c κs = search needs
 
 number-requires : tie.Need-number-requires
 number-requires c κs = search needs
@@ -23,14 +27,20 @@ cast-number c = search needs
 put-decimal-requires : tie.Need-put-decimal-requires
 put-decimal-requires c κs = search needs
 
+used-requires-2 : tie.Need-used-requires-2
+used-requires-2 c κs = search needs
+
 slice-aggregate-put-bytes-2 : tie.Need-slice-aggregate-put-bytes-2
 slice-aggregate-put-bytes-2 c = search needs
 
 put-bytes-requires-2 : tie.Need-put-bytes-requires-2
 put-bytes-requires-2 c κs = search needs
 
+used-requires-3 : tie.Need-used-requires-3
+used-requires-3 c κs = search needs
+
 returns : tie.Need-returns
-returns c = refused-shown (c .before .before .before .before .before .before .before .before .before .args .r) (now (c .before .before .before .before .before .before .before .before .before .args .out)) _ _ _ _ _ _ _ (let e : length (now (c .before .before .before .before .before .before .before .before .before .args .out)) ≡ 196608 = search needs in e) (omega (arith, c .before .before .before .before .before .number .ok)) (c .before .before .before .before .before .before .put-bytes .ensures) (c .before .before .before .before .before .number .ensures) (c .before .before .before .put-decimal .ensures) (c .put-bytes2 .ensures)
+returns c = refused-shown (c .before .before .before .before .before .before .before .before .before .before .before .before .args .r) (now (c .before .before .before .before .before .before .before .before .before .before .before .before .args .out)) _ _ _ _ _ _ _ _ (let e : length (now (c .before .before .before .before .before .before .before .before .before .before .before .before .args .out)) ≡ 196608 = search needs in e) (omega (arith, c .before .before .before .before .before .before .before .number .ok)) (used-adds _ _ _ _ _ (c .before .before .before .before .before .before .before .before .before .put-bytes .ensures) _ (c .before .before .before .before .before .before .before .before .used .ensures)) (c .before .before .before .before .before .before .before .number .ensures) (c .before .before .before .before .before .put-decimal .ensures) (c .before .before .before .before .used2 .ensures) (used-adds _ _ _ _ _ (c .before .put-bytes2 .ensures) _ (c .used3 .ensures))
 
 pub put-refused-spec : {M : Type 1} → statement M
 put-refused-spec =
@@ -38,9 +48,12 @@ put-refused-spec =
     (tie.spec
     slice-aggregate-put-bytes
     put-bytes-requires
+    used-requires
     number-requires
     cast-number
     put-decimal-requires
+    used-requires-2
     slice-aggregate-put-bytes-2
     put-bytes-requires-2
+    used-requires-3
     returns)

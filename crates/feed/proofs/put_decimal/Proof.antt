@@ -1,7 +1,7 @@
 -- `feed::put_decimal` meets its contract.
 use mathlib.Core.Path.{refl}
 use borrow.Author.Needs.{needs}
-use Rattle.feed.proofs.Cuts.{adds-digits}
+use Rattle.feed.proofs.Added.{puts-digits}
 use Rattle.feed.proofs.put_decimal.Statement.{statement}
 use Rattle.feed.proofs.put_decimal.Tie as tie
 
@@ -21,7 +21,7 @@ same-length : tie.Need-same-length
 same-length c = search needs
 
 returns : tie.Need-returns
-returns c = record { places = c .before .before .before .before .before .decimal .result; fewest = c .before .before .before .before .before .decimal .ensures .1 .0; adds = adds-digits _ _ 10 _ _ (c .before .before .before .before .before .decimal .result) (c .before .before .before .before .before .decimal .result) _ _ (c .before .before .put-bytes .ensures) (c .before .before .before .before .before .decimal .ensures .1 .1) refl }
+returns c = record { places = c .before .before .before .before .before .decimal .result; fewest = c .before .before .before .before .before .decimal .ensures .1 .0; puts = puts-digits _ _ 10 _ _ (c .before .before .before .before .before .decimal .result) (c .before .before .before .before .before .decimal .result) _ _ (c .before .before .put-bytes .ensures) (c .before .before .before .before .before .decimal .ensures .1 .1) refl }
 
 pub put-decimal-spec : {M : Type 1} → statement M
 put-decimal-spec =

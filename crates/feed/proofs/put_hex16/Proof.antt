@@ -1,6 +1,6 @@
 -- `feed::put_hex16` meets its contract.
 use borrow.Author.Needs.{needs}
-use Rattle.feed.proofs.Cuts.{adds-digits, sixteen}
+use Rattle.feed.proofs.Added.{puts-digits, sixteen}
 use Rattle.feed.proofs.put_hex16.Statement.{statement}
 use Rattle.feed.proofs.put_hex16.Tie as tie
 
@@ -20,7 +20,7 @@ same-length : tie.Need-same-length
 same-length c = search needs
 
 returns : tie.Need-returns
-returns c = adds-digits _ _ 16 _ _ (c .before .before .before .before .before .hex .result) 16 _ _ (c .before .before .put-bytes .ensures) (c .before .before .before .before .before .hex .ensures .1 .1) (sixteen (c .before .before .before .before .before .before .before .before .args .x) (c .before .before .before .before .before .hex .result) (c .before .before .before .before .before .before .before .before .fits .x .fits) (c .before .before .before .before .before .hex .ensures .1 .0))
+returns c = puts-digits _ _ 16 _ _ (c .before .before .before .before .before .hex .result) 16 _ _ (c .before .before .put-bytes .ensures) (c .before .before .before .before .before .hex .ensures .1 .1) (sixteen (c .before .before .before .before .before .before .before .before .args .x) (c .before .before .before .before .before .hex .result) (c .before .before .before .before .before .before .before .before .fits .x .fits) (c .before .before .before .before .before .hex .ensures .1 .0))
 
 pub put-hex16-spec : {M : Type 1} → statement M
 put-hex16-spec =

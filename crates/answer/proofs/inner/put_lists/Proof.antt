@@ -1,9 +1,10 @@
 -- `answer::inner::put_lists` meets its contract.
 use mathlib.Core.Path.{_≡_}
 use lib.ListN.{length}
-use denote.Ref.{now}
-use Rattle.answer.proofs.Spoken.{lists-shown, never-room, never-refused}
 use borrow.Author.Needs.{needs}
+use denote.Ref.{now}
+use Rattle.feed.proofs.Added.{used-adds}
+use Rattle.answer.proofs.Spoken.{lists-shown, never-room, never-refused}
 use Rattle.answer.proofs.inner.put_lists.Statement.{statement}
 use Rattle.answer.proofs.inner.put_lists.Tie as tie
 
@@ -19,8 +20,14 @@ slice-aggregate-put-bytes c = search needs
 put-bytes-requires : tie.Need-put-bytes-requires
 put-bytes-requires c κs = search needs
 
+used-requires : tie.Need-used-requires
+used-requires c κs = search needs
+
 report-requires : tie.Need-report-requires
 report-requires c κs = search needs
+
+used-requires-2 : tie.Need-used-requires-2
+used-requires-2 c κs = search needs
 
 enum-told : tie.Need-enum-told
 enum-told c = search needs
@@ -32,7 +39,7 @@ put-refused-requires : tie.Need-put-refused-requires
 put-refused-requires c κs = search needs
 
 returns : tie.Need-returns
-returns c = lists-shown (c .before .before .before .before .before .before .before .before .before .before .before .before .args .b) (now (c .before .before .before .before .before .before .before .before .before .before .before .before .args .out)) _ _ (c .before .before .before .before .before .before .before .before .before .before .before .before .pre .0) (let e : length (now (c .before .before .before .before .before .before .before .before .before .before .before .before .args .out)) ≡ 196608 = search needs in e) (c .before .before .before .before .before .before .before .before .print .ensures .0) (c .before .before .before .before .before .before .before .before .print .ensures .1) _ _ (c .before .before .before .before .before .before .before .before .before .before .before .before .pre .1) (c .before .before .before .before .before .before .before .before .before .before .before .before .pre .2) _ _ _ _ _ (c .before .before .before .before .before .before .p .given .1) (c .before .before .put-bytes .ensures) (c .report .ensures)
+returns c = lists-shown (c .before .before .before .before .before .before .before .before .before .before .before .before .before .before .args .b) (now (c .before .before .before .before .before .before .before .before .before .before .before .before .before .before .args .out)) _ _ (c .before .before .before .before .before .before .before .before .before .before .before .before .before .before .pre .0) (let e : length (now (c .before .before .before .before .before .before .before .before .before .before .before .before .before .before .args .out)) ≡ 196608 = search needs in e) (c .before .before .before .before .before .before .before .before .before .before .print .ensures .0) (c .before .before .before .before .before .before .before .before .before .before .print .ensures .1) _ _ (c .before .before .before .before .before .before .before .before .before .before .before .before .before .before .pre .1) (c .before .before .before .before .before .before .before .before .before .before .before .before .before .before .pre .2) _ _ _ _ _ (c .before .before .before .before .before .before .before .before .p .given .1) (used-adds _ _ _ _ _ (c .before .before .before .before .put-bytes .ensures) _ (c .before .before .before .used .ensures)) (used-adds _ _ _ _ _ (c .before .report .ensures) _ (c .used2 .ensures))
 
 returns-2 : tie.Need-returns-2
 returns-2 c = absurd (never-room (c .before .before .before .before .before .before .args .b) (now (c .before .before .before .before .before .before .args .out)) _ _ (c .before .before .before .before .before .before .pre .0) (let e : length (now (c .before .before .before .before .before .before .args .out)) ≡ 196608 = search needs in e) (c .before .before .print .ensures .0) (c .before .before .print .ensures .1) _ (c .enum-told .given .1))
@@ -48,7 +55,9 @@ put-lists-spec =
     enum-known-p
     slice-aggregate-put-bytes
     put-bytes-requires
+    used-requires
     report-requires
+    used-requires-2
     enum-told
     enum-known-p-2
     put-refused-requires
