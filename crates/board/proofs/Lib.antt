@@ -1,2 +1,3 @@
 pub mod Passing
 pub mod Moving
+pub mod Tested

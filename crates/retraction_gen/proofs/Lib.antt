@@ -1,4 +1,5 @@
 pub mod Filled
+pub mod Gated
 pub mod Lowest
 pub mod Going
 pub mod Sources
