@@ -39,6 +39,15 @@ module _ (ts : List Test) where
   pub beside-refused : {A : Type 0} (x y : A) (r : Refusal) → numberOf r ≡ firstFailing ts → y ≡ cond (eqb (firstFailing ts) 0) x y
   beside-refused x y r h = rw (← h, some-number r)
 
+  -- what stands behind tests counts only where they all pass
+  pub behind-any : (x y : Said) → (firstFailing ts ≡ 0 → x ≡ y) → behind ts x ≡ behind ts y
+  unfolding behind
+  behind-any x y f = go (eqb (firstFailing ts) 0) refl
+    where
+      go : (t : Bool) → eqb (firstFailing ts) 0 ≡ t → cond t x (says (firstFailing ts) []) ≡ cond t y (says (firstFailing ts) [])
+      go true e = f (eqb-true (firstFailing ts) 0 e)
+      go false e = refl
+
   module _ (us : List Test) where
     -- tests behind those that all pass, and behind one that fails
     pub pass-on : firstFailing ts ≡ 0 → firstFailing us ≡ firstFailing (ts ++ us)
@@ -72,6 +81,13 @@ module _ (b : RetractableBoard) (v : Verdict) (e : v ≡ gateOf b) where
 
   pub gate-passes : v ≡ Accepted → firstFailing (boardTests b) ≡ 0
   gate-passes h = sym (ap verdictNumber (sym h ∙ e) ∙ gate-number b)
+
+-- and back: the gate by the number
+pub passed-gate : (b : RetractableBoard) → firstFailing (boardTests b) ≡ 0 → gateOf b ≡ Accepted
+passed-gate b h = verdict-one (gateOf b) Accepted (gate-number b ∙ h)
+
+pub refused-gate : (b : RetractableBoard) (r : Refusal) → numberOf r ≡ firstFailing (boardTests b) → gateOf b ≡ Refused r
+refused-gate b r h = verdict-one (gateOf b) (Refused r) (gate-number b ∙ sym h)
 
 -- a last test
 pub last-passes : (t : Bool) (r : Refusal) → firstFailing ((t else r) ∷ []) ≡ 0 → t ≡ true

@@ -1,12 +1,12 @@
 -- What a listing tells by its answer, and that any two answers agree.
-use mathlib.Core.Path.{_≡_, refl, sym, ap, _∙_}
+use mathlib.Core.Path.{_≡_, refl, sym, ap, _∙_, subst}
 use mathlib.Core.Bool.{Bool, true, false, cond}
 use mathlib.Core.List.{List, [], _∷_, _++_, map}
 use Prim.Native.Nat.{ℕ, _≤_, _<_}
 use native.Mathlib.Omega.{arith}
 use lib.Dec.{eqb, leb}
 use lib.ListN.{length, drop}
-use borrow.Author.Tests.{eqb-true, leb-true, leb-false}
+use borrow.Author.Tests.{eqb-true, leb-true, leb-false, le-leb, lt-leb}
 use Rattle.laws.specs.declared.ChessRetraction.{ChessRetraction}
 use Rattle.laws.specs.Retractions.{packed}
 use Rattle.accept.specs.declared.Refusal.{Refusal}
@@ -16,9 +16,10 @@ use Rattle.accept.specs.Verdicts.{numberOf}
 use Rattle.accept.specs.Said.{Test, firstFailing, Said, says, numberSaid, told, fitting, behind}
 use Rattle.listing.specs.declared.Listed.{Listed}
 use Rattle.listing.specs.declared.Listed.the-variants.{Count, Room, Refused}
-use Rattle.listing.specs.Listing.{listedSays, ListsInto}
+use Rattle.listing.specs.Listing.{fillFrom, listedSays, ListsInto}
 use Rattle.accept.proofs.Saying.{number-one, behind-by}
 use Rattle.board.proofs.Tested.{some-number}
+use Rattle.listing.proofs.Filling.{filled-is}
 
 valuesSaid : Said → List ℕ
 valuesSaid (says n vs) = vs
@@ -32,14 +33,35 @@ no-value e = absurd (omega (arith, ap (λ (x : Said). length (valuesSaid x)) e))
 pub no-room : {A : Type 0} {m n : ℕ} → _≡_ {A = Said} (told (m ∷ [])) (says (numberOf room) (n ∷ [])) → A
 no-room e = absurd (omega (arith, ap numberSaid e))
 
+-- an answer whose length is the list's: it has no room, or it was written
+module _ {l : List ChessRetraction} {s : List ℕ} (n : ℕ) (e : n ≡ length l) where
+  pub into-roomless : length s < n → ListsInto [] l s (Room n) s
+  unfolding behind firstFailing
+  into-roomless h = record { answer = rw (← e, lt-leb n (length s) h); slots = refl }
+
+  pub into-written : {after : List ℕ} → n ≤ length s → after ≡ fillFrom s 0 l → ListsInto [] l s (Count n) after
+  unfolding behind firstFailing
+  into-written h k = record { answer = rw (← e, le-leb n (length s) h); slots = k ∙ filled-is s l (omega arith) }
+
 module _ {ts : List Test} {l : List ChessRetraction} {s : List ℕ} where
   -- behind tests that all pass, and behind one that fails
-  pub listed-behind : {r : Listed} {after : List ℕ} → firstFailing ts ≡ 0 → ListsInto [] l s r after → ListsInto ts l s r after
+  pub into-behind : {r : Listed} {after : List ℕ} → firstFailing ts ≡ 0 → ListsInto [] l s r after → ListsInto ts l s r after
   unfolding behind firstFailing
-  listed-behind h k = record { answer = rw h (k .answer); slots = k .slots }
+  into-behind h k = record { answer = rw h (k .answer); slots = k .slots }
 
-  pub listed-refused : (why : Refusal) → numberOf why ≡ firstFailing ts → ListsInto ts l s (Refused why) s
-  listed-refused why h = record { answer = behind-by (refused why) ts (fitting (length l) (length s)) h; slots = rw (some-number why) }
+  pub into-refused : (why : Refusal) → numberOf why ≡ firstFailing ts → ListsInto ts l s (Refused why) s
+  into-refused why h = record { answer = behind-by (refused why) ts (fitting (length l) (length s)) h; slots = rw (some-number why) }
+
+  -- a list counts only where the tests all pass
+  pub into-any : {r : Listed} {after : List ℕ} (k : List ChessRetraction) → (firstFailing ts ≡ 0 → l ≡ k) → ListsInto ts l s r after → ListsInto ts k s r after
+  unfolding behind
+  into-any {r} {after} k f x = go (eqb (firstFailing ts) 0) refl
+    where
+      go : (t : Bool) → eqb (firstFailing ts) 0 ≡ t → ListsInto ts k s r after
+      go true e = subst (λ (q : List ChessRetraction). ListsInto ts q s r after) (f (eqb-true (firstFailing ts) 0 e)) x
+      go false e =
+          let d : listedSays r ≡ says (firstFailing ts) [] = x .answer ∙ rw e in
+          record { answer = d ∙ rw e; slots = x .slots ∙ rw (d, e) }
 
 -- what is told where the list was written, where it has no room, and where a test fails
 pub record Written (ts : List Test) (l : List ChessRetraction) (s after : List ℕ) (n : ℕ) : Type 0 where

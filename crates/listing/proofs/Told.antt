@@ -20,7 +20,7 @@ use Rattle.listing.specs.Listing.{ListsInto}
 use Rattle.retraction_gen.proofs.Sourced.{list-sound}
 use Rattle.retraction_gen.proofs.Whole.{start-formed, start-rest, made-start, made-fits}
 use Rattle.listing.proofs.Lengths.{sequence-fits}
-use Rattle.listing.proofs.Telling.{listed-behind, listed-refused}
+use Rattle.listing.proofs.Telling.{into-behind, into-refused}
 
 module _ (b : RetractableBoard) (m : Made) (e : Makes (listTests b) (cursorOn b) m) where
   made-rest : m .verdict ≡ Accepted → restOf (m .cursor) ≡ sequenceOn b
@@ -36,7 +36,7 @@ module _ (b : RetractableBoard) (m : Made) (e : Makes (listTests b) (cursorOn b)
       )
 
   pub told : (s after : List ℕ) (r : Listed) → m .verdict ≡ Accepted → ListsInto [] (restOf (m .cursor)) s r after → ListsInto (listTests b) (sequenceOn b) s r after
-  told s after r k x = listed-behind (sym (e .number) ∙ ap verdictNumber k) (rw (made-rest k) at x)
+  told s after r k x = into-behind (sym (e .number) ∙ ap verdictNumber k) (rw (made-rest k) at x)
 
   pub refused-told : (s : List ℕ) (why : Refusal) → m .verdict ≡ Refused why → ListsInto (listTests b) (sequenceOn b) s (notListed why) s
-  refused-told s why k = listed-refused why (sym (ap verdictNumber k) ∙ e .number)
+  refused-told s why k = into-refused why (sym (ap verdictNumber k) ∙ e .number)

@@ -3,3 +3,4 @@ pub mod Remaining
 pub mod Unique
 pub mod Told
 pub mod Daggers
+pub mod Numbered
