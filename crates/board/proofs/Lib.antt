@@ -1,3 +1,3 @@
 pub mod Passing
 pub mod Moving
-pub mod Tested
+pub mod Numbers

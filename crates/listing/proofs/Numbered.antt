@@ -1,21 +1,23 @@
 -- 8 and 13, exactly when: of whatever answer the promise of `retractions_into` allows.
 use mathlib.Core.Path.{_≡_, refl, ap, _∙_}
 use mathlib.Core.Bool.{Bool, true, false, not, cond}
-use mathlib.Core.List.{List, [], _∷_}
+use mathlib.Core.List.{List, [], _∷_, map}
 use Prim.Native.Nat.{ℕ}
 use native.Mathlib.Omega.{arith}
 use lib.Dec.{eqb, leb}
-use lib.ListN.{length}
+use lib.ListN.{length, length-map}
 use Rattle.squares.specs.Tests.{_and_}
+use Rattle.laws.specs.Retractions.{packed}
 use Rattle.accept.specs.declared.Refusal.the-variants.{Full}
-use Rattle.accept.specs.Said.{_else_, firstFailing, Said, says, numberSaid, told, fitting, behind}
+use Rattle.accept.specs.Said.{_else_, firstFailing, Said, says, numberSaid, told, fitting, behind, Writes}
 use Rattle.board.specs.declared.RetractableBoard.{RetractableBoard}
 use Rattle.board.specs.Gate.{boardTests}
 use Rattle.retraction_gen.specs.Making.{listOn, fullTest, listTests}
 use Rattle.retraction_gen.specs.Sequence.{sequenceOn}
 use Rattle.listing.specs.declared.Listed.{Listed}
-use Rattle.listing.specs.Listing.{listedSays, ListsInto}
-use Rattle.board.proofs.Tested.{behind-more, above-seven}
+use Rattle.listing.specs.Listing.{listedSays}
+use Rattle.accept.proofs.Tested.{behind-more}
+use Rattle.board.proofs.Numbers.{above-seven}
 
 -- what is said behind 1 to 7: the list fits, or doesn't, and its sequence of n has room, or hasn't
 abbrev saidBy : ℕ → Bool → Bool → Said
@@ -35,7 +37,7 @@ room-by n true false room = refl
 room-by n true true false = refl
 room-by n true true true = refl
 
-module _ (b : RetractableBoard) (s after : List ℕ) (r : Listed) (k : ListsInto (listTests b) (sequenceOn b) s r after) where
+module _ (b : RetractableBoard) (s after : List ℕ) (r : Listed) (k : Writes (listTests b) (map packed (sequenceOn b)) s (listedSays r) after) where
   abbrev accepted : Bool
   accepted = eqb (firstFailing (boardTests b)) 0
 
@@ -47,7 +49,9 @@ module _ (b : RetractableBoard) (s after : List ℕ) (r : Listed) (k : ListsInto
 
   number-is : (n : ℕ) → eqb (numberSaid (listedSays r)) n ≡ eqb (numberSaid (behind (boardTests b) (saidBy (length (sequenceOn b)) fits room))) n
   number-is n =
-      ap (λ (x : Said). eqb (numberSaid x) n) (k .answer ∙ behind-more (boardTests b) (fullTest (listOn b)) (fitting (length (sequenceOn b)) (length s)))
+      ap (λ (x : Said). eqb (numberSaid x) n)
+      (k .answer ∙ ap (λ (i : ℕ). behind (listTests b) (fitting i (length s))) (length-map (sequenceOn b) packed)
+      ∙ behind-more (boardTests b) (fullTest (listOn b)) (fitting (length (sequenceOn b)) (length s)))
 
   -- 8: 1 to 7 pass, and the list would need a 48th entry
   pub full-exactly : eqb (numberSaid (listedSays r)) 8 ≡ (accepted and not fits)

@@ -9,7 +9,8 @@ use Rattle.board.specs.Gate.{gateOf, boardTests}
 use Rattle.retraction_gen.specs.declared.Made.{Made}
 use Rattle.retraction_gen.specs.declared.Masks.{Masks}
 use Rattle.retraction_gen.specs.Making.{listOn, masksOn, noMasks, fullTest, listTests, cursorOn, noCursor, Makes, Masked}
-use Rattle.board.proofs.Tested.{beside-none, beside-refused, pass-on, stop-on, gate-refuses, gate-passes}
+use Rattle.accept.proofs.Tested.{beside-none, beside-refused, pass-on, stop-on}
+use Rattle.board.proofs.Numbers.{gate-refuses, gate-passes}
 
 module _ (b : RetractableBoard) (v : Verdict) (e : v ≡ gateOf b) where
   pub makes-refused : (why : Refusal) (r : Made) → v ≡ Refused why → (r .verdict ≡ Refused why) × (r .cursor ≡ noCursor) → Makes (listTests b) (cursorOn b) r

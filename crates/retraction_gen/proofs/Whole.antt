@@ -21,18 +21,16 @@ use Rattle.roll.specs.declared.SourceAndTargets.{SourceAndTargets}
 use Rattle.roll.specs.Roll.{noEntry, holding}
 use Rattle.retraction_gen.specs.declared.RetractionGen.{RetractionGen}
 use Rattle.retraction_gen.specs.declared.Made.{Made}
-use Rattle.retraction_gen.specs.declared.Stepped.{Stepped}
-use Rattle.retraction_gen.specs.declared.Next.the-variants.{Retraction, End}
 use Rattle.retraction_gen.specs.declared.Turn.{Turn}
 use Rattle.retraction_gen.specs.declared.Turn.the-variants.{Again, Found, Over}
 use Rattle.retraction_gen.specs.Making.{listOn, masksOn, startOf, fullTest, listTests, cursorOn, noCursor, Makes}
-use Rattle.retraction_gen.specs.Cursors.{withIndex, withUncaptured, turned, stepped, entryAt, lowestOf, lessened, spent, passing, barred, passedTo, uncapturedTo, turnIn, onEntry, turnOf, fuel, stepOf, sound, wellFormed, nextOf}
+use Rattle.retraction_gen.specs.Cursors.{withIndex, withUncaptured, turned, retractionSaid, endSaid, Answered, back, entryAt, lowestOf, lessened, spent, passing, barred, passedTo, uncapturedTo, turnIn, onEntry, turnOf, fuel, stepOf, sound, wellFormed, nextOf}
 use Rattle.retraction_gen.specs.Sequence.{sequenceOf, sequenceOn, Yields}
 use Rattle.retraction_gen.specs.Rest.{restIn, windowOf, restOf}
 use Rattle.retraction_gen.proofs.Going.{on-len, again-less, turn-less, step-again, step-found, step-over}
 use Rattle.squares.proofs.Testing.{both, left, right}
 use Rattle.retraction_gen.proofs.Remaining.{found, turn-gives, rest-sequence}
-use Rattle.board.proofs.Tested.{beside-none, none-fails, last-passes}
+use Rattle.accept.proofs.Tested.{beside-none, none-fails, last-passes}
 use Rattle.retraction_gen.proofs.Sourced.{list-sound}
 
 -- a turn keeps a cursor well formed
@@ -79,20 +77,20 @@ formed-len g w = leb-true (g .len) 47 (left (leb (g .len) 47) _ w)
 
 -- of a well formed cursor `next` is the step
 is-step : (g : RetractionGen) → wellFormed g ≡ true → nextOf g ≡ stepOf g
-is-step g w = ap (λ (t : Bool). cond t (stepOf g) (stepped g End)) w
+is-step g w = ap (λ (t : Bool). cond t (stepOf g) (back g endSaid)) w
 
 same-yields : (g h : RetractionGen) (l : List ChessRetraction) → nextOf g ≡ nextOf h → Yields h l → Yields g l
 unfolding Yields
-same-yields g h [] e y = ap (λ (s : Stepped). s .next) e ∙ y
-same-yields g h (r ∷ rs) e y = (ap (λ (s : Stepped). s .next) e ∙ y .0, subst (λ (k : RetractionGen). Yields k rs) (sym (ap (λ (s : Stepped). s .cursor) e)) (y .1))
+same-yields g h [] e y = ap (λ (s : Answered). s .said) e ∙ y
+same-yields g h (r ∷ rs) e y = (ap (λ (s : Answered). s .said) e ∙ y .0, subst (λ (k : RetractionGen). Yields k rs) (sym (ap (λ (s : Answered). s .cursor) e)) (y .1))
 
-yields-end : (g h : RetractionGen) → nextOf g ≡ stepped h End → Yields g []
+yields-end : (g h : RetractionGen) → nextOf g ≡ back h endSaid → Yields g []
 unfolding Yields
-yields-end g h e = ap (λ (s : Stepped). s .next) e
+yields-end g h e = ap (λ (s : Answered). s .said) e
 
-yields-one : (g h : RetractionGen) (r : ChessRetraction) (rs : List ChessRetraction) → nextOf g ≡ stepped h (Retraction r) → Yields h rs → Yields g (r ∷ rs)
+yields-one : (g h : RetractionGen) (r : ChessRetraction) (rs : List ChessRetraction) → nextOf g ≡ back h (retractionSaid r) → Yields h rs → Yields g (r ∷ rs)
 unfolding Yields
-yields-one g h r rs e y = (ap (λ (s : Stepped). s .next) e, subst (λ (k : RetractionGen). Yields k rs) (sym (ap (λ (s : Stepped). s .cursor) e)) y)
+yields-one g h r rs e y = (ap (λ (s : Answered). s .said) e, subst (λ (k : RetractionGen). Yields k rs) (sym (ap (λ (s : Answered). s .cursor) e)) y)
 
 no-over : (r : ChessRetraction) → _≡_ {A = Turn} (Found r) Over → ⊥
 no-over r e = omega (arith, (let z : _≡_ {A = ℕ} 0 1 = cc in z))

@@ -9,7 +9,7 @@ ghost use Rattle.geometry.specs.Lines.{IsBetween};
 ghost use Rattle.accept.specs.declared.Verdict.the-variants.{Refused};
 ghost use Rattle.board.specs.Gate.{boardTests};
 ghost use Rattle.retraction_gen.specs.Making.{listOn, masksOn, fullTest, listTests, cursorOn, noCursor, Makes, Masked};
-ghost use Rattle.retraction_gen.specs.Cursors.{nextOf};
+ghost use Rattle.retraction_gen.specs.Cursors.{Steps};
 
 pub mod inner; // inner.rt: the cursor's start, and one turn of it
 
@@ -115,7 +115,7 @@ impl RetractionGen {
 
     // The next retraction, or the end. A malformed cursor is at the end.
     pub fn next(mut self) -> Stepped
-        ensures { λ r. ⌜ r ≡ nextOf self ⌝ }
+        ensures { λ r. ⌜ Steps self r ⌝ }
     {
         if !inner::well_formed(self) {
             return Stepped {

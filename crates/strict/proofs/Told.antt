@@ -9,7 +9,7 @@ use native.Mathlib.Omega.{arith}
 use borrow.Author.Tests.{eq-eqb}
 use lib.ListN.{length}
 use Rattle.laws.specs.declared.ChessRetraction.{ChessRetraction}
-use Rattle.laws.specs.Retractions.{InRange}
+use Rattle.laws.specs.Retractions.{packed, InRange}
 use Rattle.laws.specs.Acceptance.{accepted}
 use Rattle.laws.specs.Strictness.{strict}
 use Rattle.squares.specs.Squares.{flag}
@@ -18,12 +18,12 @@ use Rattle.laws.specs.Boards.{Board, acceptedBoard, BoardPast}
 use Rattle.accept.specs.declared.Refusal.{Refusal}
 use Rattle.accept.specs.declared.Verdict.the-variants.{Accepted, Refused}
 use Rattle.accept.specs.Verdicts.{numberOf, thirdOf, fiveOf, judgedOf}
-use Rattle.accept.specs.Said.{firstFailing, Said, told}
+use Rattle.accept.specs.Said.{firstFailing, Said, told, Writes}
 use Rattle.board.specs.declared.RetractableBoard.{RetractableBoard}
 use Rattle.board.specs.Gate.{posOn, toLaws, freshBy, gateBy, gateOf, boardTests}
 use Rattle.listing.specs.declared.Listed.{Listed}
 use Rattle.listing.specs.declared.Listed.the-variants.{Refused as notListed}
-use Rattle.listing.specs.Listing.{ListsInto}
+use Rattle.listing.specs.Listing.{listedSays}
 use Rattle.strict.specs.declared.Counted.the-variants.{Count, Refused as notCounted}
 use Rattle.strict.specs.declared.LastMove.the-variants.{Exists, NoLastMove, Refused as notAnswered}
 use Rattle.strict.specs.Demand.{Past, Among, first, later, IsStrictList, Lists, Counts, Answers, strictMoves}
@@ -34,9 +34,9 @@ use Rattle.laws.proofs.StrictMembers.{placed-place, strict-in, strict-order, st
 use Rattle.laws.proofs.BoardPasts.{demand3}
 use Rattle.accept.proofs.Numbered.{never}
 use Rattle.accept.proofs.Saying.{behind-by}
+use Rattle.accept.proofs.Writing.{writes-behind, writes-refused}
 use Rattle.board.proofs.Passing.{Passed, gate-passed}
-use Rattle.board.proofs.Tested.{gate-refuses, gate-passes}
-use Rattle.listing.proofs.Telling.{into-behind, into-refused}
+use Rattle.board.proofs.Numbers.{gate-refuses, gate-passes}
 use Rattle.strict.proofs.Unique.{among-cases}
 use Rattle.strict.proofs.Remaining.{rest, all-rest, at-end, one-more}
 
@@ -177,8 +177,8 @@ module _ (b : RetractableBoard) (h : gateOf b ≡ Accepted) (j : ℕ) (x : Next 
 
 -- the answers behind the gate
 module _ (b : RetractableBoard) where
-  pub listed-told : {r : Listed} {s after : List ℕ} → gateOf b ≡ Accepted → ListsInto [] (strictMoves (posOn b)) s r after → Lists b s r after
-  listed-told h e = record { moves = strictMoves (posOn b); exact = demanded b; into = into-behind (gate-passes b (gateOf b) refl h) e }
+  pub listed-told : {s after : List ℕ} (r : Listed) → gateOf b ≡ Accepted → Writes [] (map packed (strictMoves (posOn b))) s (listedSays r) after → Lists b s r after
+  listed-told r h e = record { moves = strictMoves (posOn b); exact = demanded b; into = writes-behind (gate-passes b (gateOf b) refl h) e }
 
   pub counted-told : {n : ℕ} → gateOf b ≡ Accepted → n ≡ length (strictMoves (posOn b)) → Counts b (Count n)
   counted-told h e = record {
@@ -195,7 +195,7 @@ module _ (b : RetractableBoard) where
     number = gate-refuses b (gateOf b) refl why h
 
     pub listed-refused : (s : List ℕ) → Lists b s (notListed why) s
-    listed-refused s = record { moves = []; exact = nothing-asked; into = into-refused why number }
+    listed-refused s = record { moves = []; exact = nothing-asked; into = writes-refused why number }
 
     pub counted-refused : Counts b (notCounted why)
     counted-refused = record { moves = []; exact = nothing-asked; answer = behind-by (Refused why) (boardTests b) (told (0 ∷ [])) number }

@@ -6,6 +6,7 @@ use Prim.Native.Nat.{ℕ, _<_}
 use native.Mathlib.Omega.{arith}
 use lib.ListN.{length}
 use Rattle.laws.specs.declared.ChessRetraction.{ChessRetraction}
+use Rattle.laws.specs.Retractions.{packed}
 use Rattle.laws.specs.StrictLists.{place, Below, Ascending}
 use Rattle.accept.specs.declared.Refusal.{Refusal}
 use Rattle.accept.specs.declared.Verdict.the-variants.{Accepted, Refused}
@@ -21,8 +22,10 @@ use Rattle.strict.specs.declared.LastMove.the-variants.{Exists, NoLastMo
 use Rattle.strict.specs.Demand.{Among, first, later, IsStrictList, Lists, countedSays, Counts, Answers}
 use Rattle.accept.proofs.Numbered.{never}
 use Rattle.accept.proofs.Saying.{number-one, verdict-one}
-use Rattle.board.proofs.Tested.{behind-any, passed-gate}
-use Rattle.listing.proofs.Telling.{no-value, into-any, one-into}
+use Rattle.accept.proofs.Tested.{behind-any}
+use Rattle.accept.proofs.Writing.{no-value, writes-any}
+use Rattle.board.proofs.Numbers.{passed-gate}
+use Rattle.listing.proofs.Telling.{one-listed}
 
 pub among-cases : {r q : ChessRetraction} {l : List ChessRetraction} → Among r (q ∷ l) → (r ≡ q) ⊎ Among r l
 among-cases first = inl refl
@@ -73,7 +76,9 @@ one-where : (b : RetractableBoard) (l k : List ChessRetraction) → (gateOf b �
 one-where b l k x y h = let a = passed-gate b h in one-list b l k (x a) (y a)
 
 pub one-listing : (b : RetractableBoard) (s : List ℕ) (r q : Listed) (t u : List ℕ) → Lists b s r t → Lists b s q u → (r ≡ q) × (t ≡ u)
-one-listing b s r q t u x y = one-into r q t u (into-any (y .moves) (one-where b (x .moves) (y .moves) (x .exact) (y .exact)) (x .into)) (y .into)
+one-listing b s r q t u x y =
+    one-listed (y .moves) r q t u
+    (writes-any (map packed (y .moves)) (λ h. ap (map packed) (one-where b (x .moves) (y .moves) (x .exact) (y .exact) h)) (x .into)) (y .into)
 
 counted-one : (r q : Counted) → countedSays r ≡ countedSays q → r ≡ q
 counted-one (Count m) (Count n) e = cc

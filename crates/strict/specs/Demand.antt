@@ -6,15 +6,16 @@ use Prim.Native.Nat.{ℕ}
 use lib.ListN.{length}
 use Rattle.laws.specs.declared.ChessRetraction.{ChessRetraction}
 use Rattle.laws.specs.Positions.{Pos}
+use Rattle.laws.specs.Retractions.{packed}
 use Rattle.laws.specs.Strictness.{Gives}
 use Rattle.laws.specs.StrictLists.{place, placed, strictPlaces, Ascending}
 use Rattle.laws.specs.Boards.{Shaped}
 use Rattle.accept.specs.declared.Verdict.the-variants.{Accepted}
-use Rattle.accept.specs.Said.{firstFailing, Said, numberSaid, told, refusal, behind}
+use Rattle.accept.specs.Said.{firstFailing, Said, numberSaid, told, refusal, behind, Writes}
 use Rattle.board.specs.declared.RetractableBoard.{RetractableBoard}
 use Rattle.board.specs.Gate.{posOn, toLaws, gateOf, boardTests}
 use Rattle.listing.specs.declared.Listed.{Listed}
-use Rattle.listing.specs.Listing.{ListsInto}
+use Rattle.listing.specs.Listing.{listedSays}
 use Rattle.strict.specs.declared.Counted.{Counted}
 use Rattle.strict.specs.declared.Counted.the-variants.{Count, Refused as notCounted}
 use Rattle.strict.specs.declared.LastMove.{LastMove}
@@ -39,7 +40,7 @@ pub record IsStrictList (b : RetractableBoard) (l : List ChessRetraction) : Type
 pub record Lists (b : RetractableBoard) (s : List ℕ) (r : Listed) (after : List ℕ) : Type 0 where
   pub moves : List ChessRetraction
   pub exact : gateOf b ≡ Accepted → IsStrictList b moves
-  pub into : ListsInto (boardTests b) moves s r after
+  pub into : Writes (boardTests b) (map packed moves) s (listedSays r) after
 
 -- the length alone: 1 to 7
 abbrev pub countedSays : Counted → Said

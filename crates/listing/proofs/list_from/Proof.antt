@@ -1,7 +1,8 @@
 -- `listing::list_from` meets its contract.
 use native.Mathlib.Omega.{arith}
 use borrow.Author.Needs.{needs}
-use Rattle.listing.proofs.Telling.{into-roomless, into-written}
+use Rattle.retraction_gen.specs.Rest.{restOf}
+use Rattle.listing.proofs.Telling.{listed-roomless, listed-written}
 use Rattle.listing.proofs.list_from.Statement.{statement}
 use Rattle.listing.proofs.list_from.Tie as tie
 
@@ -9,7 +10,7 @@ count-requires : tie.Need-count-requires
 count-requires c κs = search needs
 
 returns : tie.Need-returns
-returns c = into-roomless _ (c .before .count .ensures) (c .if1 .taken)
+returns c = listed-roomless (restOf (c .before .before .before .args .g)) _ (c .before .count .ensures) (c .if1 .taken)
 
 fill-requires : tie.Need-fill-requires
 fill-requires c κs = (c .before .before .before .before .pre .0, omega (arith, c .before .before .count .ensures, c .before .if1 .left))
@@ -18,7 +19,7 @@ same-length : tie.Need-same-length
 same-length c = search needs
 
 returns-2 : tie.Need-returns-2
-returns-2 c = into-written _ (c .before .before .before .before .before .count .ensures) (c .before .before .before .before .if1 .left) (c .before .before .fill .ensures)
+returns-2 c = listed-written (restOf (c .before .before .before .before .before .before .before .args .g)) _ (c .before .before .before .before .before .count .ensures) (c .before .before .before .before .if1 .left) (c .before .before .fill .ensures)
 
 pub list-from-spec : {M : Type 1} → statement M
 list-from-spec = tie.close (tie.spec count-requires returns fill-requires same-length returns-2)

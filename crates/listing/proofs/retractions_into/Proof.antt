@@ -23,7 +23,7 @@ same-length : tie.Need-same-length
 same-length c = search needs
 
 returns-2 : tie.Need-returns-2
-returns-2 c = told _ _ (c .before .before .before .before .before .before .before .new-legal .ensures) _ _ _ (c .before .before .before .before .enum-told .given .1) (c .before .before .list-from .ensures)
+returns-2 c = told _ _ (c .before .before .before .before .before .before .before .new-legal .ensures) _ _ (c .before .before .list-from .result) (c .before .before .before .before .enum-told .given .1) (c .before .before .list-from .ensures)
 
 pub retractions-into-spec : {M : Type 1} → statement M
 retractions-into-spec =

@@ -4,7 +4,7 @@ use borrow.Author.Needs.{needs}
 use Rattle.accept.specs.declared.Refusal.the-variants.{Full}
 use Rattle.accept.specs.Verdicts.{verdictNumber}
 use Rattle.retraction_gen.specs.Making.{listOn, masksOn, cursorOn}
-use Rattle.board.proofs.Tested.{beside-none, beside-refused}
+use Rattle.accept.proofs.Tested.{beside-none, beside-refused}
 use Rattle.retraction_gen.proofs.Filled.{held-is, full-fails, held-passes}
 use Rattle.retraction_gen.proofs.made_from.Statement.{statement}
 use Rattle.retraction_gen.proofs.made_from.Tie as tie
