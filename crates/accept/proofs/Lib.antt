@@ -1,3 +1,5 @@
 pub mod Judged
 pub mod Numbered
 pub mod Saying
+pub mod Tested
+pub mod Writing

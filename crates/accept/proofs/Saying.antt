@@ -21,7 +21,7 @@ use Rattle.accept.specs.Said.{Test, _else_, firstFailing, fiveTests, raw
 use Rattle.laws.proofs.Cases.{by-cases}
 
 -- a number of refusal is never 0
-some-number : (r : Refusal) → eqb (numberOf r) 0 ≡ false
+pub some-number : (r : Refusal) → eqb (numberOf r) 0 ≡ false
 some-number men = refl
 some-number kings = refl
 some-number pawn = refl

@@ -1,9 +1,11 @@
 -- An answer as document 01 has it: a number, 0 where nothing is refused, and the values beside it. Each answer that is an enum has a
 -- definition that says which (`..Says`), and the promises are made of what it says.
+use mathlib.Core.Path.{_≡_}
 use mathlib.Core.Bool.{Bool, cond}
 use mathlib.Core.List.{List, [], _∷_, _++_}
 use Prim.Native.Nat.{ℕ}
 use lib.Dec.{eqb, leb}
+use lib.ListN.{length, drop}
 use Rattle.geometry.specs.declared.Color.{Color}
 use Rattle.laws.specs.declared.EnPassantFlag.{EnPassantFlag}
 use Rattle.laws.specs.Positions.{Rights}
@@ -55,3 +57,9 @@ fitting n m = cond (leb n m) (told (n ∷ [])) (says (numberOf room) (n ∷ []))
 -- the number of the first test that fails, or, where all pass, x
 unfoldable pub behind : List Test → Said → Said
 behind ts x = cond (eqb (firstFailing ts) 0) x (says (firstFailing ts) [])
+
+-- t goes into a lent slice that holds o, behind the tests ts: x is said, and where its number is 0 the slice then holds t and what stood
+-- beyond; "A refusal writes nothing"
+pub record Writes (ts : List Test) (t o : List ℕ) (x : Said) (after : List ℕ) : Type 0 where
+  pub answer : x ≡ behind ts (fitting (length t) (length o))
+  pub holds : after ≡ cond (eqb (numberSaid x) 0) (t ++ drop (length t) o) o

@@ -1,26 +1,90 @@
--- From a list that fits or doesn't to the answer.
-use mathlib.Core.Path.{_≡_, sym, ap, _∙_}
+-- From a list that fits or doesn't to the answer of a side, and from the sides to the answer.
+use mathlib.Core.Path.{_≡_, refl, sym, ap, _∙_}
 use mathlib.Core.Bool.{Bool, true, false, cond}
-use mathlib.Core.List.{List}
+use mathlib.Core.List.{List, [], _∷_}
 use Prim.Native.Nat.{ℕ}
+use native.Mathlib.Omega.{arith}
+use lib.Dec.{leb}
+use lib.ListN.{length}
+use Rattle.geometry.specs.declared.Color.{Color}
+use Rattle.laws.specs.declared.EnPassantFlag.{EnPassantFlag}
+use Rattle.accept.specs.declared.Refusal.{Refusal}
 use Rattle.accept.specs.declared.Refusal.the-variants.{Full}
-use Rattle.roll.specs.declared.SourceAndTargets.{SourceAndTargets}
+use Rattle.accept.specs.declared.Verdict.{Verdict}
+use Rattle.accept.specs.declared.Verdict.the-variants.{Accepted, Refused as refused}
+use Rattle.accept.specs.Said.{_else_, firstFailing, Said, numberSaid, told, refusal, behind}
+use Rattle.board.specs.declared.RetractableBoard.{RetractableBoard}
+use Rattle.board.specs.Gate.{gateOf, boardTests}
 use Rattle.roll.specs.declared.RetractionList.{RetractionList}
 use Rattle.roll.specs.Roll.{holding, answerOf}
+use Rattle.masks.specs.Masks.{masksOf}
 use Rattle.retraction_gen.specs.declared.Next.{Next}
+use Rattle.retraction_gen.specs.declared.Next.the-variants.{Retraction, End}
 use Rattle.retraction_gen.specs.declared.Stepped.{Stepped}
-use Rattle.retraction_gen.specs.Making.{startOf}
-use Rattle.retraction_gen.specs.Cursors.{nextOf}
+use Rattle.retraction_gen.specs.Making.{startOf, fullTest}
+use Rattle.retraction_gen.specs.Cursors.{nextSays, nextOf, Steps}
 use Rattle.limited.specs.declared.Limited.{Limited}
-use Rattle.limited.specs.declared.Limited.the-variants.{Refused}
-use Rattle.limited.specs.Limiting.{byNext, listLimited}
-use Rattle.retraction_gen.proofs.Filled.{over-is, held-is}
+use Rattle.limited.specs.declared.Limited.the-variants.{Yes, No, Refused}
+use Rattle.limited.specs.Limiting.{limitedSays, isNone, officersOn, nothingOn, sideOf, limitedFrom, limitedOf}
+use Rattle.accept.proofs.Saying.{behind-by}
+use Rattle.accept.proofs.Writing.{no-value}
+use Rattle.board.proofs.Numbers.{gate-refuses, gate-passes}
+use Rattle.retraction_gen.proofs.Filled.{held-is, full-fails, held-passes}
 
-pub side-full : (es : List SourceAndTargets) (ms : List ℕ) (l : RetractionList) → l ≡ answerOf es → l .full ≡ true → _≡_ {A = Limited} (Refused Full) (listLimited es ms)
-side-full es ms l e f = sym (ap (λ (t : Bool). cond t (Refused Full) (byNext (nextOf (startOf (holding es) ms) .next))) (over-is es l e ∙ f))
+-- the iterator's first answer, as the code reads it
+abbrev byNext : Next → Limited
+byNext (Retraction r) = No
+byNext End = Yes
 
-pub side-held : (es : List SourceAndTargets) (ms ms′ : List ℕ) (l : RetractionList) (s : Stepped) (x : Next) → l ≡ answerOf es → l .full ≡ false → ms′ ≡ ms
-    → s ≡ nextOf (startOf l ms′) → s .next ≡ x → byNext x ≡ listLimited es ms
-side-held es ms ms′ l s x e f m n k =
-    ap byNext (sym k ∙ ap (λ (y : Stepped). y .next) n ∙ ap (λ (r : RetractionList). nextOf (startOf r ms′) .next) (held-is es l e f) ∙ ap (λ (q : List ℕ). nextOf (startOf (holding es) q) .next) m)
-    ∙ sym (ap (λ (t : Bool). cond t (Refused Full) (byNext (nextOf (startOf (holding es) ms) .next))) (over-is es l e ∙ f))
+next-by : (x : Next) → limitedSays (byNext x) ≡ cond (isNone (nextSays x)) (told (1 ∷ [])) (told (0 ∷ []))
+next-by (Retraction r) = refl
+next-by End = refl
+
+module _ (b : RetractableBoard) (c : Color) (st : EnPassantFlag) (l : RetractionList) (e : l ≡ answerOf (officersOn b c st)) where
+  pub side-full : l .full ≡ true → limitedSays (Refused Full) ≡ sideOf b c st (told (0 ∷ []))
+  unfolding sideOf
+  side-full f = behind-by (refused Full) (fullTest (officersOn b c st)) _ (full-fails (officersOn b c st) l e f)
+
+  pub side-held : (ms : List ℕ) (s : Stepped) (x : Next) → l .full ≡ false → ms ≡ masksOf (b .pieces) (b .colors) c → Steps (startOf l ms) s → s .next ≡ x
+      → limitedSays (byNext x) ≡ sideOf b c st (told (0 ∷ []))
+  unfolding sideOf nothingOn
+  side-held ms s x f m n k =
+      next-by x
+      ∙ ap (λ (y : Said). cond (isNone y) (told (1 ∷ [])) (told (0 ∷ [])))
+      (ap nextSays (sym k) ∙ n .answer ∙ ap (λ (q : RetractionList). nextOf (startOf q ms) .said) (held-is (officersOn b c st) l e f)
+      ∙ ap (λ (q : List ℕ). nextOf (startOf (holding (officersOn b c st)) q) .said) m)
+      ∙ behind-by Accepted (fullTest (officersOn b c st)) _ (sym (held-passes (officersOn b c st) l e f))
+
+-- what is said by the first side, or, where it has something to give, x
+abbrev pub orElse : Limited → Said → Said
+orElse Yes x = told (1 ∷ [])
+orElse (Refused why) x = refusal why
+orElse No x = x
+
+no-one : {A : Type 0} → _≡_ {A = Said} (told (1 ∷ [])) (told (0 ∷ [])) → A
+no-one e = absurd (omega (arith, (let w : _≡_ {A = ℕ} 1 0 = cc in w)))
+
+sides-by : (fits none : Bool) (x : Said) (r : Limited) → limitedSays r ≡ behind ((fits else Full) ∷ []) (cond none (told (1 ∷ [])) (told (0 ∷ [])))
+    → orElse r x ≡ behind ((fits else Full) ∷ []) (cond none (told (1 ∷ [])) x)
+unfolding behind firstFailing
+sides-by false none x Yes e = no-value e
+sides-by false none x No e = no-value e
+sides-by false none x (Refused why) e = e
+sides-by true true x Yes e = refl
+sides-by true true x No e = no-one (sym e)
+sides-by true true x (Refused why) e = no-value (sym e)
+sides-by true false x Yes e = no-one e
+sides-by true false x No e = refl
+sides-by true false x (Refused why) e = no-value (sym e)
+
+pub side-then : (b : RetractableBoard) (c : Color) (st : EnPassantFlag) (x : Said) (r : Limited) → limitedSays r ≡ sideOf b c st (told (0 ∷ [])) → orElse r x ≡ sideOf b c st x
+unfolding sideOf
+side-then b c st x r e = sides-by (leb (length (officersOn b c st)) 47) (nothingOn b c st) x r e
+
+-- behind the gate
+module _ (b : RetractableBoard) (v : Verdict) (e : v ≡ gateOf b) where
+  pub limited-refused : (why : Refusal) → v ≡ refused why → limitedSays (Refused why) ≡ limitedOf b
+  limited-refused why h = behind-by (refused why) (boardTests b) (limitedFrom b) (gate-refuses b v e why h)
+
+  pub limited-on : (r : Limited) → v ≡ Accepted → limitedSays r ≡ limitedFrom b → limitedSays r ≡ limitedOf b
+  limited-on r h k = k ∙ behind-by Accepted (boardTests b) (limitedFrom b) (sym (gate-passes b v e h))

@@ -6,8 +6,10 @@ use laws::Color;
 use laws::EnPassantFlag;
 use retraction_gen::Next;
 ghost use mathlib.Core.Path.{_≡_};
+ghost use mathlib.Core.List.{[], _∷_};
 ghost use Rattle.geometry.specs.Lines.{IsBetween};
-ghost use Rattle.limited.specs.Limiting.{isNamed, sideOf, sidesOf, limitedFrom, limitedOf};
+ghost use Rattle.accept.specs.Said.{told};
+ghost use Rattle.limited.specs.Limiting.{limitedSays, isNamed, sideOf, sidesOf, limitedFrom, limitedOf};
 
 pub enum Limited {
     Yes,
@@ -28,7 +30,7 @@ fn is_named(passant: EnPassantFlag) -> bool
 // Whether the side that does not have the turn has no officer retraction; checkers and pins stay as they are.
 fn side(t: &[u64; 4096], b: RetractableBoard, turn: Color, passant: EnPassantFlag) -> Limited
     requires { ⌜ IsBetween (now t) ⌝ }
-    ensures { λ r. ⌜ r ≡ sideOf b turn passant ⌝ }
+    ensures { λ r. ⌜ limitedSays r ≡ sideOf b turn passant (told (0 ∷ [])) ⌝ }
 {
     let pieces = b.pieces;
     let colors = b.colors;
@@ -62,7 +64,7 @@ fn side(t: &[u64; 4096], b: RetractableBoard, turn: Color, passant: EnPassantFla
 // The second list is built only where the first yields something.
 fn sides(t: &[u64; 4096], b: RetractableBoard) -> Limited
     requires { ⌜ IsBetween (now t) ⌝ }
-    ensures { λ r. ⌜ r ≡ sidesOf b ⌝ }
+    ensures { λ r. ⌜ limitedSays r ≡ sidesOf b ⌝ }
 {
     let turn = b.turn;
     let passant = b.passant;
@@ -77,7 +79,7 @@ fn sides(t: &[u64; 4096], b: RetractableBoard) -> Limited
 // A check or a named square answers before any list.
 fn limited_from(t: &[u64; 4096], b: RetractableBoard) -> Limited
     requires { ⌜ IsBetween (now t) ⌝ }
-    ensures { λ r. ⌜ r ≡ limitedFrom b ⌝ }
+    ensures { λ r. ⌜ limitedSays r ≡ limitedFrom b ⌝ }
 {
     let passant = b.passant;
     if (b.checkers != 0) | is_named(passant) {
@@ -88,7 +90,7 @@ fn limited_from(t: &[u64; 4096], b: RetractableBoard) -> Limited
 
 // Refusals 1 to 7, then 8 for a list that this call builds.
 pub fn is_limited_in_retractions(b: RetractableBoard) -> Limited
-    ensures { λ r. ⌜ r ≡ limitedOf b ⌝ }
+    ensures { λ r. ⌜ limitedSays r ≡ limitedOf b ⌝ }
 {
     let t = tables::between_table();
     let v = board::inner::gate(&t, b);

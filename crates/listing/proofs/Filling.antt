@@ -4,7 +4,7 @@ use mathlib.Core.List.{List, [], _∷_, _++_, map, append-assoc}
 use Prim.Native.Nat.{ℕ, _+_, _≤_}
 use native.Mathlib.Nat.{not-suc-le-zero, le-of-suc-le-suc}
 use native.Mathlib.Omega.{arith}
-use lib.ListN.{length, drop, set, length-append, length-set}
+use lib.ListN.{length, drop, set, length-append, length-map, length-set}
 use lib.Seq.{set-append-seam}
 use Rattle.laws.specs.declared.ChessRetraction.{ChessRetraction}
 use Rattle.laws.specs.Retractions.{packed}
@@ -21,8 +21,8 @@ fill-after xs (y ∷ ys) n (r ∷ l) e h =
     ∙ fill-after (xs ++ (packed r ∷ [])) ys (length xs + 1) l (sym (length-append xs (packed r ∷ []))) (le-of-suc-le-suc h)
     ∙ append-assoc xs (packed r ∷ []) (map packed l ++ drop (length l) ys)
 
-pub filled-is : (s : List ℕ) (l : List ChessRetraction) → length l ≤ length s → fillFrom s 0 l ≡ map packed l ++ drop (length l) s
-filled-is s l h = fill-after [] s 0 l refl h
+pub filled-is : (s : List ℕ) (l : List ChessRetraction) → length l ≤ length s → fillFrom s 0 l ≡ map packed l ++ drop (length (map packed l)) s
+filled-is s l h = fill-after [] s 0 l refl h ∙ ap (λ (n : ℕ). map packed l ++ drop n s) (sym (length-map l packed))
 
 -- one slot more
 pub fill-on : (slots slots₀ whole : List ℕ) (n v : ℕ) (l rest : List ChessRetraction) (r : ChessRetraction) → l ≡ r ∷ rest → v ≡ packed r → n + length l ≤ length slots

@@ -6,11 +6,16 @@ use retraction_gen::RetractionGen;
 use retraction_gen::Turn;
 ghost use mathlib.Core.Path.{_≡_};
 ghost use mathlib.Core.Bool.{true};
+ghost use mathlib.Core.List.{[], map};
 ghost use Prim.Native.Nat.{_≤_, _<_, _^_};
 ghost use lib.ListN.{length};
+ghost use Rattle.laws.specs.Retractions.{packed};
+ghost use Rattle.accept.specs.Said.{Writes};
 ghost use Rattle.retraction_gen.specs.Cursors.{wellFormed};
+ghost use Rattle.retraction_gen.specs.Making.{listTests};
+ghost use Rattle.retraction_gen.specs.Sequence.{sequenceOn};
 ghost use Rattle.retraction_gen.specs.Rest.{restOf};
-ghost use Rattle.listing.specs.Listing.{fillFrom, roomFor, roomedIn, listedOf, slotsOf};
+ghost use Rattle.listing.specs.Listing.{fillFrom, listedSays};
 
 // How many were written; how many slots are needed; or why the board is refused.
 pub enum Listed {
@@ -67,7 +72,7 @@ fn fill(mut g: RetractionGen, slots: &mut [u16])
 // Nothing is written before the room is known.
 fn list_from(g: RetractionGen, slots: &mut [u16]) -> Listed
     requires { ⌜ (wellFormed g ≡ true) × (length (restOf g) < 2 ^ 64) ⌝ }
-    ensures { λ r. ⌜ (r ≡ roomFor (restOf g) (now (slots .entry))) × (now (slots .exit) ≡ roomedIn (restOf g) (now (slots .entry))) ⌝ }
+    ensures { λ r. ⌜ Writes [] (map packed (restOf g)) (now (slots .entry)) (listedSays r) (now (slots .exit)) ⌝ }
 {
     let n = count(g);
     if n > slots.len() {
@@ -79,7 +84,7 @@ fn list_from(g: RetractionGen, slots: &mut [u16]) -> Listed
 
 // The retractions of a board in the iterator's order: refusals 1 to 7, 8, then 13.
 pub fn retractions_into(b: RetractableBoard, slots: &mut [u16]) -> Listed
-    ensures { λ r. ⌜ (r ≡ listedOf b (now (slots .entry))) × (now (slots .exit) ≡ slotsOf b (now (slots .entry))) ⌝ }
+    ensures { λ r. ⌜ Writes (listTests b) (map packed (sequenceOn b)) (now (slots .entry)) (listedSays r) (now (slots .exit)) ⌝ }
 {
     let made = RetractionGen::new_legal(b);
     let v = made.verdict;

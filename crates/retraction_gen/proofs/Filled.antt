@@ -2,16 +2,16 @@
 use mathlib.Core.Path.{_≡_, refl, sym, ap, _∙_}
 use mathlib.Core.Bool.{Bool, true, false, cond}
 use mathlib.Core.List.{List}
-use Prim.Native.Nat.{ℕ}
 use lib.Dec.{ltb}
 use lib.ListN.{length}
+use borrow.Author.Tests.{ltb-true, ltb-false, le-leb, lt-leb}
 use Rattle.accept.specs.declared.Refusal.the-variants.{Full}
-use Rattle.accept.specs.declared.Verdict.the-variants.{Accepted, Refused}
+use Rattle.accept.specs.Verdicts.{numberOf}
+use Rattle.accept.specs.Said.{firstFailing}
 use Rattle.roll.specs.declared.SourceAndTargets.{SourceAndTargets}
 use Rattle.roll.specs.declared.RetractionList.{RetractionList}
 use Rattle.roll.specs.Roll.{holding, fullList, answerOf}
-use Rattle.retraction_gen.specs.declared.Made.{Made}
-use Rattle.retraction_gen.specs.Making.{startOf, fullBy, refusedMade, madeBy}
+use Rattle.retraction_gen.specs.Making.{fullTest}
 
 flag-of : (es : List SourceAndTargets) (t : Bool) → cond t fullList (holding es) .full ≡ t
 unfolding fullList holding
@@ -26,13 +26,11 @@ pub held-is : (es : List SourceAndTargets) (l : RetractionList) → l ≡ answer
 unfolding answerOf
 held-is es l e f = e ∙ ap (λ (t : Bool). cond t fullList (holding es)) (over-is es l e ∙ f)
 
-pub made-full : (es : List SourceAndTargets) (ms : List ℕ) (l : RetractionList) → l ≡ answerOf es → l .full ≡ true → refusedMade Full ≡ madeBy (fullBy es) es ms
-made-full es ms l e f = sym (ap (λ (t : Bool). madeBy (cond t (Refused Full) Accepted) es ms) (over-is es l e ∙ f))
+-- a list that is full fails it, and one that isn't passes
+pub full-fails : (es : List SourceAndTargets) (l : RetractionList) → l ≡ answerOf es → l .full ≡ true → numberOf Full ≡ firstFailing (fullTest es)
+unfolding firstFailing
+full-fails es l e f = rw (lt-leb (length es) 47 (ltb-true 47 (length es) (over-is es l e ∙ f)))
 
-pub made-held : (es : List SourceAndTargets) (ms : List ℕ) (l : RetractionList) → l ≡ answerOf es → l .full ≡ false
-    → _≡_ {A = Made} (record { verdict = Accepted; cursor = startOf l ms }) (madeBy (fullBy es) es ms)
-made-held es ms l e f =
-    ap (λ (r : RetractionList). the-made r) (held-is es l e f) ∙ sym (ap (λ (t : Bool). madeBy (cond t (Refused Full) Accepted) es ms) (over-is es l e ∙ f))
-  where
-    the-made : RetractionList → Made
-    the-made r = record { verdict = Accepted; cursor = startOf r ms }
+pub held-passes : (es : List SourceAndTargets) (l : RetractionList) → l ≡ answerOf es → l .full ≡ false → firstFailing (fullTest es) ≡ 0
+unfolding firstFailing
+held-passes es l e f = rw (le-leb (length es) 47 (ltb-false 47 (length es) (over-is es l e ∙ f)))

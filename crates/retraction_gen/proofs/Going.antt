@@ -18,9 +18,7 @@ use Rattle.retraction_gen.specs.declared.RetractionGen.{RetractionGen}
 use Rattle.retraction_gen.specs.declared.Turn.{Turn}
 use Rattle.retraction_gen.specs.declared.Turn.the-variants.{Again, Found, Over}
 use Rattle.retraction_gen.specs.declared.Turned.{Turned}
-use Rattle.retraction_gen.specs.declared.Next.the-variants.{Retraction, End}
-use Rattle.retraction_gen.specs.declared.Stepped.{Stepped}
-use Rattle.retraction_gen.specs.Cursors.{withIndex, withUncaptured, turned, stepped, entryAt, lowestOf, lessened, spent, passing, barred, passedTo, uncapturedTo, turnIn, onEntry, turnOf, weigh, fuel, answered, runOf, stepOf}
+use Rattle.retraction_gen.specs.Cursors.{withIndex, withUncaptured, turned, retractionSaid, endSaid, Answered, back, entryAt, lowestOf, lessened, spent, passing, barred, passedTo, uncapturedTo, turnIn, onEntry, turnOf, weigh, fuel, answered, runOf, stepOf}
 use Rattle.squares.proofs.Testing.{left, right}
 use Rattle.squares.proofs.Members.{members-none}
 use Rattle.retraction_gen.proofs.Lowest.{members-lowest}
@@ -107,7 +105,7 @@ pub again-less : (g : RetractionGen) → turnOf g .turn ≡ Again → fuel (turn
 again-less g e = turn-less g (not-over (turnOf g .turn) e)
 
 -- with more fuel than is needed the answer is the same
-same-way : (g : RetractionGen) (t : Turn) (x y : Stepped) → (t ≡ Again → x ≡ y) → answered t g x ≡ answered t g y
+same-way : (g : RetractionGen) (t : Turn) (x y : Answered) → (t ≡ Again → x ≡ y) → answered t g x ≡ answered t g y
 same-way g Again x y h = h refl
 same-way g (Found r) x y h = refl
 same-way g Over x y h = refl
@@ -126,10 +124,10 @@ step-again g e =
     ap (λ (t : Turn). answered t (turnOf g .cursor) (runOf (fuel g) (turnOf g .cursor))) e
     ∙ enough (fuel g) (suc (fuel (turnOf g .cursor))) (turnOf g .cursor) (again-less g e) (le-refl _)
 
-pub step-found : (g : RetractionGen) (r : ChessRetraction) → turnOf g .turn ≡ Found r → stepOf g ≡ stepped (turnOf g .cursor) (Retraction r)
+pub step-found : (g : RetractionGen) (r : ChessRetraction) → turnOf g .turn ≡ Found r → stepOf g ≡ back (turnOf g .cursor) (retractionSaid r)
 unfolding stepOf runOf
 step-found g r e = ap (λ (t : Turn). answered t (turnOf g .cursor) (runOf (fuel g) (turnOf g .cursor))) e
 
-pub step-over : (g : RetractionGen) → turnOf g .turn ≡ Over → stepOf g ≡ stepped (turnOf g .cursor) End
+pub step-over : (g : RetractionGen) → turnOf g .turn ≡ Over → stepOf g ≡ back (turnOf g .cursor) endSaid
 unfolding stepOf runOf
 step-over g e = ap (λ (t : Turn). answered t (turnOf g .cursor) (runOf (fuel g) (turnOf g .cursor))) e

@@ -1,6 +1,8 @@
 pub mod Filled
+pub mod Gated
 pub mod Lowest
 pub mod Going
+pub mod Stepping
 pub mod Sources
 pub mod Remaining
 pub mod Sourced

@@ -9,29 +9,28 @@ use lib.Dec.{leb, ltb, lit<}
 use lib.ListN.{length, getD, set, take, replicate}
 use borrow.Author.Tests.{leb-true, le-leb, ltb-false, ltb-true, leb-false}
 use Rattle.squares.specs.Tests.{_and_}
-use Rattle.accept.specs.declared.Refusal.{Refusal}
 use Rattle.accept.specs.declared.Refusal.the-variants.{Full}
-use Rattle.accept.specs.declared.Verdict.{Verdict}
-use Rattle.accept.specs.declared.Verdict.the-variants.{Accepted, Refused}
-use Rattle.accept.specs.Verdicts.{andThen}
+use Rattle.accept.specs.declared.Verdict.the-variants.{Accepted}
+use Rattle.accept.specs.Verdicts.{verdictNumber}
+use Rattle.accept.specs.Said.{firstFailing}
 use Rattle.board.specs.declared.RetractableBoard.{RetractableBoard}
-use Rattle.board.specs.Gate.{gateOf}
+use Rattle.board.specs.Gate.{boardTests}
 use Rattle.laws.specs.declared.ChessRetraction.{ChessRetraction}
 use Rattle.laws.specs.Retractions.{InRange}
 use Rattle.roll.specs.declared.SourceAndTargets.{SourceAndTargets}
 use Rattle.roll.specs.Roll.{noEntry, holding}
 use Rattle.retraction_gen.specs.declared.RetractionGen.{RetractionGen}
-use Rattle.retraction_gen.specs.declared.Stepped.{Stepped}
-use Rattle.retraction_gen.specs.declared.Next.the-variants.{Retraction, End}
+use Rattle.retraction_gen.specs.declared.Made.{Made}
 use Rattle.retraction_gen.specs.declared.Turn.{Turn}
 use Rattle.retraction_gen.specs.declared.Turn.the-variants.{Again, Found, Over}
-use Rattle.retraction_gen.specs.Making.{listOn, masksOn, startOf, refusedMade, madeBy, madeOf}
-use Rattle.retraction_gen.specs.Cursors.{withIndex, withUncaptured, turned, stepped, entryAt, lowestOf, lessened, spent, passing, barred, passedTo, uncapturedTo, turnIn, onEntry, turnOf, fuel, stepOf, sound, wellFormed, nextOf}
+use Rattle.retraction_gen.specs.Making.{listOn, masksOn, startOf, fullTest, listTests, cursorOn, noCursor, Makes}
+use Rattle.retraction_gen.specs.Cursors.{withIndex, withUncaptured, turned, retractionSaid, endSaid, Answered, back, entryAt, lowestOf, lessened, spent, passing, barred, passedTo, uncapturedTo, turnIn, onEntry, turnOf, fuel, stepOf, sound, wellFormed, nextOf}
 use Rattle.retraction_gen.specs.Sequence.{sequenceOf, sequenceOn, Yields}
 use Rattle.retraction_gen.specs.Rest.{restIn, windowOf, restOf}
 use Rattle.retraction_gen.proofs.Going.{on-len, again-less, turn-less, step-again, step-found, step-over}
 use Rattle.squares.proofs.Testing.{both, left, right}
 use Rattle.retraction_gen.proofs.Remaining.{found, turn-gives, rest-sequence}
+use Rattle.accept.proofs.Tested.{beside-none, none-fails, last-passes}
 use Rattle.retraction_gen.proofs.Sourced.{list-sound}
 
 -- a turn keeps a cursor well formed
@@ -78,20 +77,20 @@ formed-len g w = leb-true (g .len) 47 (left (leb (g .len) 47) _ w)
 
 -- of a well formed cursor `next` is the step
 is-step : (g : RetractionGen) → wellFormed g ≡ true → nextOf g ≡ stepOf g
-is-step g w = ap (λ (t : Bool). cond t (stepOf g) (stepped g End)) w
+is-step g w = ap (λ (t : Bool). cond t (stepOf g) (back g endSaid)) w
 
 same-yields : (g h : RetractionGen) (l : List ChessRetraction) → nextOf g ≡ nextOf h → Yields h l → Yields g l
 unfolding Yields
-same-yields g h [] e y = ap (λ (s : Stepped). s .next) e ∙ y
-same-yields g h (r ∷ rs) e y = (ap (λ (s : Stepped). s .next) e ∙ y .0, subst (λ (k : RetractionGen). Yields k rs) (sym (ap (λ (s : Stepped). s .cursor) e)) (y .1))
+same-yields g h [] e y = ap (λ (s : Answered). s .said) e ∙ y
+same-yields g h (r ∷ rs) e y = (ap (λ (s : Answered). s .said) e ∙ y .0, subst (λ (k : RetractionGen). Yields k rs) (sym (ap (λ (s : Answered). s .cursor) e)) (y .1))
 
-yields-end : (g h : RetractionGen) → nextOf g ≡ stepped h End → Yields g []
+yields-end : (g h : RetractionGen) → nextOf g ≡ back h endSaid → Yields g []
 unfolding Yields
-yields-end g h e = ap (λ (s : Stepped). s .next) e
+yields-end g h e = ap (λ (s : Answered). s .said) e
 
-yields-one : (g h : RetractionGen) (r : ChessRetraction) (rs : List ChessRetraction) → nextOf g ≡ stepped h (Retraction r) → Yields h rs → Yields g (r ∷ rs)
+yields-one : (g h : RetractionGen) (r : ChessRetraction) (rs : List ChessRetraction) → nextOf g ≡ back h (retractionSaid r) → Yields h rs → Yields g (r ∷ rs)
 unfolding Yields
-yields-one g h r rs e y = (ap (λ (s : Stepped). s .next) e, subst (λ (k : RetractionGen). Yields k rs) (sym (ap (λ (s : Stepped). s .cursor) e)) y)
+yields-one g h r rs e y = (ap (λ (s : Answered). s .said) e, subst (λ (k : RetractionGen). Yields k rs) (sym (ap (λ (s : Answered). s .cursor) e)) y)
 
 no-over : (r : ChessRetraction) → _≡_ {A = Turn} (Found r) Over → ⊥
 no-over r e = omega (arith, (let z : _≡_ {A = ℕ} 0 1 = cc in z))
@@ -141,28 +140,25 @@ start-rest es ms =
     ap (λ (n : ℕ). restIn ms 0 (windowOf n 0 (es ++ replicate (47 - length es) noEntry))) e
     ∙ ap (restIn ms 0) (window-front es (replicate (47 - length es) noEntry)) ∙ rest-sequence ms es
 
--- an accepted cursor is the start of the board's list
-not-refused : (r : Refusal) {A : Type 0} → _≡_ {A = Verdict} (Refused r) Accepted → A
-not-refused r e = absurd (omega (arith, (let z : _≡_ {A = ℕ} 0 1 = cc in z)))
+-- whatever `new_legal` answers: where nothing is refused, the cursor is the start of the board's list
+module _ (b : RetractableBoard) (m : Made) (k : Makes (listTests b) (cursorOn b) m) (h : m .verdict ≡ Accepted) where
+  none-failed : firstFailing (listTests b) ≡ 0
+  none-failed = sym (k .number) ∙ ap verdictNumber h
 
-pub made-start : (b : RetractableBoard) → madeOf b .verdict ≡ Accepted → (madeOf b .cursor ≡ startOf (holding (listOn b)) (masksOn b)) × (length (listOn b) ≤ 47)
-unfolding refusedMade
-made-start b e = go (gateOf b) (ltb 47 (length (listOn b))) refl e
-  where
-    go : (v : Verdict) (t : Bool) → ltb 47 (length (listOn b)) ≡ t → madeBy (andThen v (cond t (Refused Full) Accepted)) (listOn b) (masksOn b) .verdict ≡ Accepted
-        → (madeBy (andThen v (cond t (Refused Full) Accepted)) (listOn b) (masksOn b) .cursor ≡ startOf (holding (listOn b)) (masksOn b)) × (length (listOn b) ≤ 47)
-    go (Refused r) t k e = not-refused r e
-    go Accepted true k e = not-refused Full e
-    go Accepted false k e = (refl, ltb-false 47 (length (listOn b)) k)
+  pub made-start : m .cursor ≡ startOf (holding (listOn b)) (masksOn b)
+  unfolding cursorOn
+  made-start = k .cursor ∙ sym (beside-none (listTests b) (cursorOn b) noCursor none-failed)
 
--- "a cursor that yields its first retraction and then pretends to be at the end" is shut out
-pub whole-sequence : (b : RetractableBoard) → madeOf b .verdict ≡ Accepted → Yields (madeOf b .cursor) (sequenceOn b)
-unfolding sequenceOn
-whole-sequence b e =
-    let m = made-start b e in
-    subst (λ (g : RetractionGen). Yields g (sequenceOf (masksOn b) (listOn b))) (sym (m .0))
-    (subst (Yields (startOf (holding (listOn b)) (masksOn b))) (start-rest (listOn b) (masksOn b))
-    (yields-rest (startOf (holding (listOn b)) (masksOn b)) (start-formed (listOn b) (masksOn b) (m .1) (list-sound b))))
+  pub made-fits : length (listOn b) ≤ 47
+  made-fits = leb-true (length (listOn b)) 47 (last-passes (leb (length (listOn b)) 47) Full (none-fails (boardTests b) (fullTest (listOn b)) none-failed .1))
+
+  -- "a cursor that yields its first retraction and then pretends to be at the end" is shut out
+  pub whole-sequence : Yields (m .cursor) (sequenceOn b)
+  unfolding sequenceOn
+  whole-sequence =
+      subst (λ (g : RetractionGen). Yields g (sequenceOf (masksOn b) (listOn b))) (sym made-start)
+      (subst (Yields (startOf (holding (listOn b)) (masksOn b))) (start-rest (listOn b) (masksOn b))
+      (yields-rest (startOf (holding (listOn b)) (masksOn b)) (start-formed (listOn b) (masksOn b) made-fits (list-sound b))))
 
 -- what a well formed cursor finds is in range
 sound-at : (es : List SourceAndTargets) (n i : ℕ) → sound (take n es) ≡ true → i < n → getD es i noEntry .source < 64

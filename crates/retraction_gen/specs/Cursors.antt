@@ -1,13 +1,15 @@
 -- The iterator (retraction_gen.rs, 340 to 385), one turn of `next` at a time. `targets_mask` is `!EMPTY` in all that is taken, so it is left out.
+use mathlib.Core.Path.{_≡_}
 use mathlib.Core.Bool.{Bool, true, false, not, cond}
 use mathlib.Core.List.{List, [], _∷_}
 use Prim.Native.Nat.{ℕ, zero, suc, _+_, _-_, _*_}
 use lib.Dec.{eqb, leb, ltb}
 use lib.ListN.{length, getD, set, take, drop}
 use Rattle.squares.specs.Tests.{_and_, _or_}
-use Rattle.squares.specs.Squares.{has, setOf, besides}
+use Rattle.squares.specs.Squares.{has, setOf, besides, flag}
 use Rattle.squares.specs.Members.{members, headOr}
 use Rattle.laws.specs.declared.ChessRetraction.{ChessRetraction}
+use Rattle.accept.specs.Said.{Said, told}
 use Rattle.roll.specs.declared.UnCaptureKind.{UnCaptureKind}
 use Rattle.roll.specs.declared.UnCaptureKind.the-variants.{Optional, Necessary, Forbidden, UnEnPassant}
 use Rattle.roll.specs.declared.SourceAndTargets.{SourceAndTargets}
@@ -32,8 +34,25 @@ withUncaptured g u = record { entries = g .entries; len = g .len; index = g .ind
 abbrev pub turned : RetractionGen → Turn → Turned
 turned g t = record { cursor = g; turn = t }
 
-abbrev pub stepped : RetractionGen → Next → Stepped
-stepped g a = record { cursor = g; next = a }
+-- "A retraction is source (today), target (earlier), uncaptured .. and un-promotion"
+abbrev pub retractionSaid : ChessRetraction → Said
+retractionSaid r = told (r .source ∷ r .target ∷ r .uncaptured ∷ flag (r .unpromotion) ∷ [])
+
+-- the end has no values
+abbrev pub endSaid : Said
+endSaid = told []
+
+abbrev pub nextSays : Next → Said
+nextSays (Retraction r) = retractionSaid r
+nextSays End = endSaid
+
+-- "the cursor goes in and comes back with the next retraction or the end"
+pub record Answered : Type 0 where
+  pub cursor : RetractionGen
+  pub said : Said
+
+abbrev pub back : RetractionGen → Said → Answered
+back g x = record { cursor = g; said = x }
 
 -- `self.retractions[self.index]`
 abbrev pub entryAt : RetractionGen → SourceAndTargets
@@ -104,17 +123,17 @@ weigh (e ∷ es) = length (members (e .targets)) + weigh es
 unfoldable pub fuel : RetractionGen → ℕ
 fuel g = (47 - g .index) + weigh (drop (g .index) (g .entries)) * 7 + (6 - g .uncaptured)
 
-abbrev pub answered : Turn → RetractionGen → Stepped → Stepped
+abbrev pub answered : Turn → RetractionGen → Answered → Answered
 answered Again g later = later
-answered (Found r) g later = stepped g (Retraction r)
-answered Over g later = stepped g End
+answered (Found r) g later = back g (retractionSaid r)
+answered Over g later = back g endSaid
 
 -- turns (`return self.next()`), until one answers
-unfoldable pub runOf : ℕ → RetractionGen → Stepped
-runOf zero g = stepped g End
+unfoldable pub runOf : ℕ → RetractionGen → Answered
+runOf zero g = back g endSaid
 runOf (suc n) g = answered (turnOf g .turn) (turnOf g .cursor) (runOf n (turnOf g .cursor))
 
-unfoldable pub stepOf : RetractionGen → Stepped
+unfoldable pub stepOf : RetractionGen → Answered
 stepOf g = runOf (suc (fuel g)) g
 
 -- every source is a square
@@ -127,5 +146,10 @@ unfoldable pub wellFormed : RetractionGen → Bool
 wellFormed g = leb (g .len) 47 and sound (take (g .len) (g .entries))
 
 -- ".. answers the end and comes back unchanged"
-abbrev pub nextOf : RetractionGen → Stepped
-nextOf g = cond (wellFormed g) (stepOf g) (stepped g End)
+abbrev pub nextOf : RetractionGen → Answered
+nextOf g = cond (wellFormed g) (stepOf g) (back g endSaid)
+
+-- what `next` hands back
+pub record Steps (g : RetractionGen) (r : Stepped) : Type 0 where
+  pub cursor : r .cursor ≡ nextOf g .cursor
+  pub answer : nextSays (r .next) ≡ nextOf g .said

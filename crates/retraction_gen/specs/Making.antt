@@ -1,16 +1,15 @@
 -- `new_legal` (retraction_gen.rs, 175 to 183) and `uncaptured_candidates` (116 to 168) of a board.
+use mathlib.Core.Path.{_≡_}
 use mathlib.Core.Bool.{cond}
-use mathlib.Core.List.{List, [], _∷_}
+use mathlib.Core.List.{List, [], _∷_, _++_}
 use Prim.Native.Nat.{ℕ}
-use lib.Dec.{ltb}
+use lib.Dec.{eqb, leb}
 use lib.ListN.{length}
-use Rattle.accept.specs.declared.Refusal.{Refusal}
 use Rattle.accept.specs.declared.Refusal.the-variants.{Full}
-use Rattle.accept.specs.declared.Verdict.{Verdict}
-use Rattle.accept.specs.declared.Verdict.the-variants.{Accepted, Refused}
-use Rattle.accept.specs.Verdicts.{andThen}
+use Rattle.accept.specs.Verdicts.{verdictNumber}
+use Rattle.accept.specs.Said.{Test, _else_, firstFailing}
 use Rattle.board.specs.declared.RetractableBoard.{RetractableBoard}
-use Rattle.board.specs.Gate.{gateOf}
+use Rattle.board.specs.Gate.{boardTests}
 use Rattle.roll.specs.declared.SourceAndTargets.{SourceAndTargets}
 use Rattle.roll.specs.declared.RetractionList.{RetractionList}
 use Rattle.roll.specs.Roll.{holding, fullList}
@@ -36,28 +35,26 @@ abbrev pub noMasks : List ℕ
 noMasks = 0 ∷ 0 ∷ 0 ∷ 0 ∷ 0 ∷ 0 ∷ []
 
 -- "8 FULL: a list that this very call builds .. would need a 48th entry"
-abbrev pub fullBy : List SourceAndTargets → Verdict
-fullBy es = cond (ltb 47 (length es)) (Refused Full) Accepted
+abbrev pub fullTest : List SourceAndTargets → List Test
+fullTest es = (leb (length es) 47 else Full) ∷ []
 
--- a refusal stands beside the cursor without entries
-unfoldable pub refusedMade : Refusal → Made
-refusedMade why = record { verdict = Refused why; cursor = startOf fullList noMasks }
+-- "Making the cursor then tests 8", and so does "listing into slots": 1 to 7, then 8
+abbrev pub listTests : RetractableBoard → List Test
+listTests b = boardTests b ++ fullTest (listOn b)
 
-abbrev pub madeBy : Verdict → List SourceAndTargets → List ℕ → Made
-madeBy Accepted es ms = record { verdict = Accepted; cursor = startOf (holding es) ms }
-madeBy (Refused why) es ms = refusedMade why
+-- the cursor of a board at its start, and the cursor without entries
+unfoldable pub cursorOn : RetractableBoard → RetractionGen
+cursorOn b = startOf (holding (listOn b)) (masksOn b)
 
-unfoldable pub madeFrom : RetractableBoard → Made
-madeFrom b = madeBy (fullBy (listOn b)) (listOn b) (masksOn b)
+unfoldable pub noCursor : RetractionGen
+noCursor = startOf fullList noMasks
 
--- "Making the cursor then tests 8": 1 to 7, then 8; else the cursor at its start
-abbrev pub madeOf : RetractableBoard → Made
-madeOf b = madeBy (andThen (gateOf b) (fullBy (listOn b))) (listOn b) (masksOn b)
+-- the number of the first test that fails beside the cursor without entries, or 0 beside g
+pub record Makes (ts : List Test) (g : RetractionGen) (r : Made) : Type 0 where
+  pub number : verdictNumber (r .verdict) ≡ firstFailing ts
+  pub cursor : r .cursor ≡ cond (eqb (firstFailing ts) 0) g noCursor
 
-abbrev pub maskedBy : Verdict → List ℕ → Masks
-maskedBy Accepted ms = record { verdict = Accepted; masks = ms }
-maskedBy (Refused why) ms = record { verdict = Refused why; masks = noMasks }
-
--- the six masks: 1 to 7, none on refusal
-abbrev pub maskedOf : RetractableBoard → Masks
-maskedOf b = maskedBy (gateOf b) (masksOn b)
+-- the number of the first test that fails beside empty masks, or 0 beside ms
+pub record Masked (ts : List Test) (ms : List ℕ) (r : Masks) : Type 0 where
+  pub number : verdictNumber (r .verdict) ≡ firstFailing ts
+  pub masks : r .masks ≡ cond (eqb (firstFailing ts) 0) ms noMasks

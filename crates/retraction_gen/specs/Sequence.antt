@@ -10,9 +10,8 @@ use Rattle.laws.specs.declared.ChessRetraction.{ChessRetraction}
 use Rattle.board.specs.declared.RetractableBoard.{RetractableBoard}
 use Rattle.roll.specs.declared.SourceAndTargets.{SourceAndTargets}
 use Rattle.retraction_gen.specs.declared.RetractionGen.{RetractionGen}
-use Rattle.retraction_gen.specs.declared.Next.the-variants.{Retraction, End}
 use Rattle.retraction_gen.specs.Making.{listOn, masksOn}
-use Rattle.retraction_gen.specs.Cursors.{passing, barred, passedTo, uncapturedTo, nextOf}
+use Rattle.retraction_gen.specs.Cursors.{retractionSaid, endSaid, passing, barred, passedTo, uncapturedTo, nextOf}
 
 -- the n numbers from u on, those that pass the test
 unfoldable pub numbersFrom : ℕ → ℕ → (ℕ → Bool) → List ℕ
@@ -38,5 +37,5 @@ sequenceOn b = sequenceOf (masksOn b) (listOn b)
 
 -- the cursor yields these retractions, call after call, and then the end
 unfoldable pub Yields : RetractionGen → List ChessRetraction → Type 0
-Yields g [] = nextOf g .next ≡ End
-Yields g (r ∷ rs) = (nextOf g .next ≡ Retraction r) × Yields (nextOf g .cursor) rs
+Yields g [] = nextOf g .said ≡ endSaid
+Yields g (r ∷ rs) = (nextOf g .said ≡ retractionSaid r) × Yields (nextOf g .cursor) rs

@@ -6,8 +6,10 @@ use laws::ChessRetraction;
 use roll::SourceAndTargets;
 ghost use mathlib.Core.Path.{_≡_};
 ghost use Rattle.geometry.specs.Lines.{IsBetween};
-ghost use Rattle.retraction_gen.specs.Making.{refusedMade, madeFrom, madeOf, maskedOf};
-ghost use Rattle.retraction_gen.specs.Cursors.{nextOf};
+ghost use Rattle.accept.specs.declared.Verdict.the-variants.{Refused};
+ghost use Rattle.board.specs.Gate.{boardTests};
+ghost use Rattle.retraction_gen.specs.Making.{listOn, masksOn, fullTest, listTests, cursorOn, noCursor, Makes, Masked};
+ghost use Rattle.retraction_gen.specs.Cursors.{Steps};
 
 pub mod inner; // inner.rt: the cursor's start, and one turn of it
 
@@ -56,7 +58,7 @@ pub struct Turned {
 }
 
 fn refused(why: Refusal) -> Made
-    ensures { λ r. ⌜ r ≡ refusedMade why ⌝ }
+    ensures { λ r. ⌜ (r .verdict ≡ Refused why) × (r .cursor ≡ noCursor) ⌝ }
 {
     let none = roll::inner::overfull();
     Made {
@@ -68,7 +70,7 @@ fn refused(why: Refusal) -> Made
 // The cursor of an accepted board, or FULL.
 fn made_from(t: &[u64; 4096], b: RetractableBoard) -> Made
     requires { ⌜ IsBetween (now t) ⌝ }
-    ensures { λ r. ⌜ r ≡ madeFrom b ⌝ }
+    ensures { λ r. ⌜ Makes (fullTest (listOn b)) (cursorOn b) r ⌝ }
 {
     let pieces = b.pieces;
     let colors = b.colors;
@@ -101,7 +103,7 @@ fn made_from(t: &[u64; 4096], b: RetractableBoard) -> Made
 impl RetractionGen {
     // The cursor of a board: refusals 1 to 7, then 8.
     pub fn new_legal(b: RetractableBoard) -> Made
-        ensures { λ r. ⌜ r ≡ madeOf b ⌝ }
+        ensures { λ r. ⌜ Makes (listTests b) (cursorOn b) r ⌝ }
     {
         let t = tables::between_table();
         let v = board::inner::gate(&t, b);
@@ -113,7 +115,7 @@ impl RetractionGen {
 
     // The next retraction, or the end. A malformed cursor is at the end.
     pub fn next(mut self) -> Stepped
-        ensures { λ r. ⌜ r ≡ nextOf self ⌝ }
+        ensures { λ r. ⌜ Steps self r ⌝ }
     {
         if !inner::well_formed(self) {
             return Stepped {
@@ -146,7 +148,7 @@ impl RetractionGen {
 
 // The squares where each man may have been uncaptured: refusals 1 to 7.
 pub fn uncaptured_candidates(b: RetractableBoard) -> Masks
-    ensures { λ r. ⌜ r ≡ maskedOf b ⌝ }
+    ensures { λ r. ⌜ Masked (boardTests b) (masksOn b) r ⌝ }
 {
     let t = tables::between_table();
     let v = board::inner::gate(&t, b);

@@ -9,32 +9,34 @@ use native.Mathlib.Omega.{arith}
 use borrow.Author.Tests.{eq-eqb}
 use lib.ListN.{length}
 use Rattle.laws.specs.declared.ChessRetraction.{ChessRetraction}
-use Rattle.laws.specs.Retractions.{InRange}
+use Rattle.laws.specs.Retractions.{packed, InRange}
 use Rattle.laws.specs.Acceptance.{accepted}
 use Rattle.laws.specs.Strictness.{strict}
 use Rattle.squares.specs.Squares.{flag}
 use Rattle.laws.specs.StrictLists.{passing, place, placed, strictPlaces, Ascending, In, here, there}
 use Rattle.laws.specs.Boards.{Board, acceptedBoard, BoardPast}
 use Rattle.accept.specs.declared.Refusal.{Refusal}
-use Rattle.accept.specs.declared.Verdict.{Verdict}
 use Rattle.accept.specs.declared.Verdict.the-variants.{Accepted, Refused}
-use Rattle.accept.specs.Verdicts.{thirdOf, fiveOf, judgedOf}
+use Rattle.accept.specs.Verdicts.{numberOf, thirdOf, fiveOf, judgedOf}
+use Rattle.accept.specs.Said.{firstFailing, Said, told, Writes}
 use Rattle.board.specs.declared.RetractableBoard.{RetractableBoard}
-use Rattle.board.specs.Gate.{posOn, toLaws, freshBy, gateBy, gateOf}
+use Rattle.board.specs.Gate.{posOn, toLaws, freshBy, gateBy, gateOf, boardTests}
 use Rattle.listing.specs.declared.Listed.{Listed}
 use Rattle.listing.specs.declared.Listed.the-variants.{Refused as notListed}
-use Rattle.listing.specs.Listing.{roomFor, roomedIn, listedBy, slotsBy}
+use Rattle.listing.specs.Listing.{listedSays}
 use Rattle.strict.specs.declared.Counted.the-variants.{Count, Refused as notCounted}
-use Rattle.strict.specs.declared.LastMove.{LastMove}
 use Rattle.strict.specs.declared.LastMove.the-variants.{Exists, NoLastMove, Refused as notAnswered}
-use Rattle.strict.specs.Demand.{Past, Among, first, later, IsStrictList, Lists, countedBy, Counts, Answers, strictMoves}
+use Rattle.strict.specs.Demand.{Past, Among, first, later, IsStrictList, Lists, Counts, Answers, strictMoves}
 use Rattle.strict.specs.Searching.{testOf, Next}
 use Rattle.squares.proofs.Testing.{both, left, right}
 use Rattle.laws.proofs.Facts.{accepts}
 use Rattle.laws.proofs.StrictMembers.{placed-place, strict-in, strict-order, strict-member}
 use Rattle.laws.proofs.BoardPasts.{demand3}
 use Rattle.accept.proofs.Numbered.{never}
+use Rattle.accept.proofs.Saying.{behind-by}
+use Rattle.accept.proofs.Writing.{writes-behind, writes-refused}
 use Rattle.board.proofs.Passing.{Passed, gate-passed}
+use Rattle.board.proofs.Numbers.{gate-refuses, gate-passes}
 use Rattle.strict.proofs.Unique.{among-cases}
 use Rattle.strict.proofs.Remaining.{rest, all-rest, at-end, one-more}
 
@@ -141,12 +143,12 @@ module _ (b : RetractableBoard) (h : gateOf b ≡ Accepted) (j : ℕ) (x : Next 
   whole : (l : List ChessRetraction) → rest (testOf (posOn b)) 0 ≡ l → IsStrictList b l
   whole l e = subst (IsStrictList b) (all-rest (posOn b) ∙ e) (demanded b h)
 
-  gate-never : (why : Refusal) → gateOf b ≡ Refused why → ⊥
-  gate-never why r = never why (sym r ∙ h)
+  zero-said : 0 ≡ firstFailing (boardTests b)
+  zero-said = sym (gate-passes b (gateOf b) refl h)
 
   pub answers-some : j < 49152 → Answers b Exists
   answers-some l = record {
-    refused = λ why r. absurd (gate-never why r);
+    number = zero-said;
     exists = λ _. ((λ _. (placed j, past)), (λ _. refl));
     none = λ _. ((λ e. absurd (apart e)), (λ f. absurd (f (placed j) past)));
   }
@@ -154,12 +156,12 @@ module _ (b : RetractableBoard) (h : gateOf b ≡ Accepted) (j : ℕ) (x : Next 
       past : Past b (placed j)
       past = whole _ (one-more _ _ _ x l) .members (placed j) .0 first
 
-      apart : _≡_ {A = LastMove} Exists NoLastMove → ⊥
-      apart z = omega (arith, (let w : _≡_ {A = ℕ} 0 1 = cc in w))
+      apart : _≡_ {A = Said} (told (1 ∷ [])) (told (0 ∷ [])) → ⊥
+      apart z = omega (arith, (let w : _≡_ {A = ℕ} 1 0 = cc in w))
 
   pub answers-none : 49152 ≤ j → Answers b NoLastMove
   answers-none f = record {
-    refused = λ why r. absurd (gate-never why r);
+    number = zero-said;
     exists = λ _. ((λ e. absurd (apart e)), (λ q. absurd (no-past (q .0) (q .1))));
     none = λ _. ((λ _. no-past), (λ _. refl));
   }
@@ -170,47 +172,33 @@ module _ (b : RetractableBoard) (h : gateOf b ≡ Accepted) (j : ℕ) (x : Next 
       no-past : (q : ChessRetraction) → Past b q → ⊥
       no-past q z = elim (whole [] (at-end _ _ _ x (end (x .skips .most) f)) .members q .1 z) [ ]
 
-      apart : _≡_ {A = LastMove} NoLastMove Exists → ⊥
+      apart : _≡_ {A = Said} (told (0 ∷ [])) (told (1 ∷ [])) → ⊥
       apart z = omega (arith, (let w : _≡_ {A = ℕ} 0 1 = cc in w))
 
--- the answers by the gate's verdict
+-- the answers behind the gate
 module _ (b : RetractableBoard) where
-  pub listed-told : {r : Listed} {after : List ℕ} (s : List ℕ) → gateOf b ≡ Accepted → (r ≡ roomFor (strictMoves (posOn b)) s) × (after ≡ roomedIn (strictMoves (posOn b)) s) → Lists b s r after
-  listed-told s h e = record {
-    moves = strictMoves (posOn b);
-    exact = demanded b;
-    answer = e .0 ∙ sym (ap (λ (v : Verdict). listedBy v (strictMoves (posOn b)) s) h);
-    slots = e .1 ∙ sym (ap (λ (v : Verdict). slotsBy v (strictMoves (posOn b)) s) h);
-  }
+  pub listed-told : {s after : List ℕ} (r : Listed) → gateOf b ≡ Accepted → Writes [] (map packed (strictMoves (posOn b))) s (listedSays r) after → Lists b s r after
+  listed-told r h e = record { moves = strictMoves (posOn b); exact = demanded b; into = writes-behind (gate-passes b (gateOf b) refl h) e }
 
   pub counted-told : {n : ℕ} → gateOf b ≡ Accepted → n ≡ length (strictMoves (posOn b)) → Counts b (Count n)
   counted-told h e = record {
     moves = strictMoves (posOn b);
     exact = demanded b;
-    answer = ap (λ (k : ℕ). Count k) e ∙ sym (ap (λ (v : Verdict). countedBy v (strictMoves (posOn b))) h);
+    answer = ap (λ (k : ℕ). told (k ∷ [])) e ∙ behind-by Accepted (boardTests b) _ (sym (gate-passes b (gateOf b) refl h));
   }
 
   module _ (why : Refusal) (h : gateOf b ≡ Refused why) where
     nothing-asked : gateOf b ≡ Accepted → IsStrictList b []
     nothing-asked a = absurd (never why (sym h ∙ a))
 
+    number : numberOf why ≡ firstFailing (boardTests b)
+    number = gate-refuses b (gateOf b) refl why h
+
     pub listed-refused : (s : List ℕ) → Lists b s (notListed why) s
-    listed-refused s = record {
-      moves = [];
-      exact = nothing-asked;
-      answer = sym (ap (λ (v : Verdict). listedBy v [] s) h);
-      slots = sym (ap (λ (v : Verdict). slotsBy v [] s) h);
-    }
+    listed-refused s = record { moves = []; exact = nothing-asked; into = writes-refused why number }
 
     pub counted-refused : Counts b (notCounted why)
-    counted-refused = record { moves = []; exact = nothing-asked; answer = sym (ap (λ (v : Verdict). countedBy v []) h) }
+    counted-refused = record { moves = []; exact = nothing-asked; answer = behind-by (Refused why) (boardTests b) (told (0 ∷ [])) number }
 
     pub answers-refused : Answers b (notAnswered why)
-    answers-refused = record {
-      refused = λ w r. ap notAnswered (same (sym h ∙ r));
-      exists = λ a. absurd (never why (sym h ∙ a));
-      none = λ a. absurd (never why (sym h ∙ a));
-    }
-      where
-        same : {w : Refusal} → Refused why ≡ Refused w → why ≡ w
-        same e = cc
+    answers-refused = record { number = number; exists = λ a. absurd (never why (sym h ∙ a)); none = λ a. absurd (never why (sym h ∙ a)) }

@@ -4,18 +4,28 @@ use mathlib.Core.Logic.{_⊎_, inl, inr, _↔_}
 use mathlib.Core.List.{List, [], _∷_, map}
 use Prim.Native.Nat.{ℕ, _<_}
 use native.Mathlib.Omega.{arith}
+use lib.ListN.{length}
 use Rattle.laws.specs.declared.ChessRetraction.{ChessRetraction}
+use Rattle.laws.specs.Retractions.{packed}
 use Rattle.laws.specs.StrictLists.{place, Below, Ascending}
-use Rattle.accept.specs.declared.Verdict.{Verdict}
+use Rattle.accept.specs.declared.Refusal.{Refusal}
 use Rattle.accept.specs.declared.Verdict.the-variants.{Accepted, Refused}
+use Rattle.accept.specs.Verdicts.{numberOf}
+use Rattle.accept.specs.Said.{firstFailing, numberSaid, told}
 use Rattle.board.specs.declared.RetractableBoard.{RetractableBoard}
-use Rattle.board.specs.Gate.{gateOf}
+use Rattle.board.specs.Gate.{gateOf, boardTests}
 use Rattle.listing.specs.declared.Listed.{Listed}
-use Rattle.listing.specs.Listing.{listedBy, slotsBy}
 use Rattle.strict.specs.declared.Counted.{Counted}
+use Rattle.strict.specs.declared.Counted.the-variants.{Count, Refused as notCounted}
 use Rattle.strict.specs.declared.LastMove.{LastMove}
 use Rattle.strict.specs.declared.LastMove.the-variants.{Exists, NoLastMove, Refused as notAnswered}
-use Rattle.strict.specs.Demand.{Among, first, later, IsStrictList, Lists, countedBy, Counts, Answers}
+use Rattle.strict.specs.Demand.{Among, first, later, IsStrictList, Lists, countedSays, Counts, Answers}
+use Rattle.accept.proofs.Numbered.{never}
+use Rattle.accept.proofs.Saying.{number-one, verdict-one}
+use Rattle.accept.proofs.Tested.{behind-any}
+use Rattle.accept.proofs.Writing.{no-value, writes-any}
+use Rattle.board.proofs.Numbers.{passed-gate}
+use Rattle.listing.proofs.Telling.{one-listed}
 
 pub among-cases : {r q : ChessRetraction} {l : List ChessRetraction} → Among r (q ∷ l) → (r ≡ q) ⊎ Among r l
 among-cases first = inl refl
@@ -60,49 +70,43 @@ pub one-list : (b : RetractableBoard) (l k : List ChessRetraction) → IsStrictL
 one-list b l k x y =
     same-list l k (x .order) (y .order) (λ r. ((λ z. y .members r .1 (x .members r .0 z)), (λ z. x .members r .1 (y .members r .0 z))))
 
--- an answer by the gate's verdict and by the list, which only an accepted board is asked for
-one-answer : {A : Type 0} (b : RetractableBoard) (f : Verdict → List ChessRetraction → A) → ((l k : List ChessRetraction) (v : Verdict) → (v ≡ Accepted → l ≡ k) → f v l ≡ f v k) → (l k : List ChessRetraction)
-    → (gateOf b ≡ Accepted → IsStrictList b l) → (gateOf b ≡ Accepted → IsStrictList b k) → f (gateOf b) l ≡ f (gateOf b) k
-one-answer b f g l k x y = g l k (gateOf b) (λ e. one-list b l k (x e) (y e))
+-- the strict list of a board counts only where the gate lets it pass
+one-where : (b : RetractableBoard) (l k : List ChessRetraction) → (gateOf b ≡ Accepted → IsStrictList b l) → (gateOf b ≡ Accepted → IsStrictList b k)
+    → firstFailing (boardTests b) ≡ 0 → l ≡ k
+one-where b l k x y h = let a = passed-gate b h in one-list b l k (x a) (y a)
 
 pub one-listing : (b : RetractableBoard) (s : List ℕ) (r q : Listed) (t u : List ℕ) → Lists b s r t → Lists b s q u → (r ≡ q) × (t ≡ u)
-one-listing b s r q t u x y = (
-  x .answer ∙ one-answer b (λ v l. listedBy v l s) listed (x .moves) (y .moves) (x .exact) (y .exact) ∙ sym (y .answer),
-  x .slots ∙ one-answer b (λ v l. slotsBy v l s) slotted (x .moves) (y .moves) (x .exact) (y .exact) ∙ sym (y .slots),
-)
-  where
-    listed : (l k : List ChessRetraction) (v : Verdict) → (v ≡ Accepted → l ≡ k) → listedBy v l s ≡ listedBy v k s
-    listed l k Accepted e = ap (λ (x : List ChessRetraction). listedBy Accepted x s) (e refl)
-    listed l k (Refused why) e = refl
+one-listing b s r q t u x y =
+    one-listed (y .moves) r q t u
+    (writes-any (map packed (y .moves)) (λ h. ap (map packed) (one-where b (x .moves) (y .moves) (x .exact) (y .exact) h)) (x .into)) (y .into)
 
-    slotted : (l k : List ChessRetraction) (v : Verdict) → (v ≡ Accepted → l ≡ k) → slotsBy v l s ≡ slotsBy v k s
-    slotted l k Accepted e = ap (λ (x : List ChessRetraction). slotsBy Accepted x s) (e refl)
-    slotted l k (Refused why) e = refl
+counted-one : (r q : Counted) → countedSays r ≡ countedSays q → r ≡ q
+counted-one (Count m) (Count n) e = cc
+counted-one (Count m) (notCounted w) e = no-value e
+counted-one (notCounted v) (Count n) e = no-value (sym e)
+counted-one (notCounted v) (notCounted w) e = ap notCounted (number-one v w (ap numberSaid e))
 
 pub one-count : (b : RetractableBoard) (r q : Counted) → Counts b r → Counts b q → r ≡ q
-one-count b r q x y = x .answer ∙ one-answer b countedBy counted (x .moves) (y .moves) (x .exact) (y .exact) ∙ sym (y .answer)
-  where
-    counted : (l k : List ChessRetraction) (v : Verdict) → (v ≡ Accepted → l ≡ k) → countedBy v l ≡ countedBy v k
-    counted l k Accepted e = ap (countedBy Accepted) (e refl)
-    counted l k (Refused why) e = refl
+one-count b r q x y =
+    counted-one r q
+    (x .answer
+    ∙ behind-any (boardTests b) _ _ (λ h. ap (λ (l : List ChessRetraction). told (length l ∷ [])) (one-where b (x .moves) (y .moves) (x .exact) (y .exact) h))
+    ∙ sym (y .answer))
+
+no-refusal : {A : Type 0} (why : Refusal) → 0 ≡ numberOf why → A
+no-refusal why e = absurd (never why (sym (verdict-one Accepted (Refused why) e)))
+
+-- "no last move" and a last move are never both allowed
+not-both : {A : Type 0} (b : RetractableBoard) → Answers b Exists → Answers b NoLastMove → A
+not-both b x y = let h = passed-gate b (sym (x .number)) in let p = x .exists h .0 refl in absurd (y .none h .0 refl (p .0) (p .1))
 
 pub one-last-move : (b : RetractableBoard) (r q : LastMove) → Answers b r → Answers b q → r ≡ q
-one-last-move b r q x y = by (gateOf b) refl
-  where
-    told : gateOf b ≡ Accepted → (z : LastMove) → r ≡ z → z ≡ q
-    told h Exists e = sym (y .exists h .1 (x .exists h .0 e))
-    told h NoLastMove e = sym (y .none h .1 (x .none h .0 e))
-    told h (notAnswered why) e = absurd (other (x .none h .1 (λ m p. never (sym e ∙ x .exists h .1 (m, p)))))
-      where
-        never : _≡_ {A = LastMove} (notAnswered why) Exists → ⊥
-        never z = omega (arith, (let w : _≡_ {A = ℕ} 0 1 = cc in w))
-
-        other : r ≡ NoLastMove → ⊥
-        other z = omega (arith, (let w : _≡_ {A = ℕ} 0 1 = no-more (sym e ∙ z) in w))
-          where
-            no-more : _≡_ {A = LastMove} (notAnswered why) NoLastMove → _≡_ {A = ℕ} 0 1
-            no-more z = cc
-
-    by : (v : Verdict) → gateOf b ≡ v → r ≡ q
-    by Accepted h = told h r refl
-    by (Refused why) h = x .refused why h ∙ sym (y .refused why h)
+one-last-move b Exists Exists x y = refl
+one-last-move b Exists NoLastMove x y = not-both b x y
+one-last-move b Exists (notAnswered w) x y = no-refusal w (x .number ∙ sym (y .number))
+one-last-move b NoLastMove Exists x y = not-both b y x
+one-last-move b NoLastMove NoLastMove x y = refl
+one-last-move b NoLastMove (notAnswered w) x y = no-refusal w (x .number ∙ sym (y .number))
+one-last-move b (notAnswered v) Exists x y = no-refusal v (y .number ∙ sym (x .number))
+one-last-move b (notAnswered v) NoLastMove x y = no-refusal v (y .number ∙ sym (x .number))
+one-last-move b (notAnswered v) (notAnswered w) x y = ap notAnswered (number-one v w (x .number ∙ sym (y .number)))

@@ -1,21 +1,21 @@
 -- Demand 3, over board values.
 use mathlib.Core.Path.{_≡_}
 use mathlib.Core.Logic.{_↔_}
-use mathlib.Core.List.{List, _∷_, map}
+use mathlib.Core.List.{List, [], _∷_, map}
 use Prim.Native.Nat.{ℕ}
 use lib.ListN.{length}
 use Rattle.laws.specs.declared.ChessRetraction.{ChessRetraction}
 use Rattle.laws.specs.Positions.{Pos}
+use Rattle.laws.specs.Retractions.{packed}
 use Rattle.laws.specs.Strictness.{Gives}
 use Rattle.laws.specs.StrictLists.{place, placed, strictPlaces, Ascending}
 use Rattle.laws.specs.Boards.{Shaped}
-use Rattle.accept.specs.declared.Refusal.{Refusal}
-use Rattle.accept.specs.declared.Verdict.{Verdict}
-use Rattle.accept.specs.declared.Verdict.the-variants.{Accepted, Refused}
+use Rattle.accept.specs.declared.Verdict.the-variants.{Accepted}
+use Rattle.accept.specs.Said.{firstFailing, Said, numberSaid, told, refusal, behind, Writes}
 use Rattle.board.specs.declared.RetractableBoard.{RetractableBoard}
-use Rattle.board.specs.Gate.{posOn, toLaws, gateOf}
+use Rattle.board.specs.Gate.{posOn, toLaws, gateOf, boardTests}
 use Rattle.listing.specs.declared.Listed.{Listed}
-use Rattle.listing.specs.Listing.{listedBy, slotsBy}
+use Rattle.listing.specs.Listing.{listedSays}
 use Rattle.strict.specs.declared.Counted.{Counted}
 use Rattle.strict.specs.declared.Counted.the-variants.{Count, Refused as notCounted}
 use Rattle.strict.specs.declared.LastMove.{LastMove}
@@ -36,28 +36,33 @@ pub record IsStrictList (b : RetractableBoard) (l : List ChessRetraction) : Type
   pub members : (r : ChessRetraction) → Among r l ↔ Past b r
   pub order : Ascending (map place l)
 
--- "This list .. go to lent 16-bit slots, packed, with the length; slots beyond keep their numbers"; "strict list .. 13"
+-- "This list .. go to lent 16-bit slots, packed, with the length; slots beyond keep their numbers"; 1 to 7, then "strict list .. 13"
 pub record Lists (b : RetractableBoard) (s : List ℕ) (r : Listed) (after : List ℕ) : Type 0 where
   pub moves : List ChessRetraction
   pub exact : gateOf b ≡ Accepted → IsStrictList b moves
-  pub answer : r ≡ listedBy (gateOf b) moves s
-  pub slots : after ≡ slotsBy (gateOf b) moves s
+  pub into : Writes (boardTests b) (map packed moves) s (listedSays r) after
 
--- the length alone
-abbrev pub countedBy : Verdict → List ChessRetraction → Counted
-countedBy Accepted l = Count (length l)
-countedBy (Refused why) l = notCounted why
+-- the length alone: 1 to 7
+abbrev pub countedSays : Counted → Said
+countedSays (Count n) = told (n ∷ [])
+countedSays (notCounted why) = refusal why
 
 pub record Counts (b : RetractableBoard) (r : Counted) : Type 0 where
   pub moves : List ChessRetraction
   pub exact : gateOf b ≡ Accepted → IsStrictList b moves
-  pub answer : r ≡ countedBy (gateOf b) moves
+  pub answer : countedSays r ≡ behind (boardTests b) (told (length moves ∷ []))
+
+-- whether there is one: 1, or 0 for "no last move"
+abbrev pub lastSays : LastMove → Said
+lastSays Exists = told (1 ∷ [])
+lastSays NoLastMove = told (0 ∷ [])
+lastSays (notAnswered why) = refusal why
 
 -- "No last move" is said "exactly when no such board and move exist"
 pub record Answers (b : RetractableBoard) (r : LastMove) : Type 0 where
-  pub refused : (why : Refusal) → gateOf b ≡ Refused why → r ≡ notAnswered why
-  pub exists : gateOf b ≡ Accepted → (r ≡ Exists) ↔ ((q : ChessRetraction) × Past b q)
-  pub none : gateOf b ≡ Accepted → (r ≡ NoLastMove) ↔ ((q : ChessRetraction) → Past b q → ⊥)
+  pub number : numberSaid (lastSays r) ≡ firstFailing (boardTests b)
+  pub exists : gateOf b ≡ Accepted → (lastSays r ≡ told (1 ∷ [])) ↔ ((q : ChessRetraction) × Past b q)
+  pub none : gateOf b ≡ Accepted → (lastSays r ≡ told (0 ∷ [])) ↔ ((q : ChessRetraction) → Past b q → ⊥)
 
 -- the Laws' strict list as retractions
 unfoldable pub strictMoves : Pos → List ChessRetraction

@@ -4,16 +4,19 @@ use laws::ChessRetraction;
 use listing::Listed;
 use placing::Position;
 ghost use mathlib.Core.Path.{_≡_};
+ghost use mathlib.Core.List.{[], map};
 ghost use Prim.Native.Nat.{_<_, _≤_};
 ghost use lib.ListN.{length};
 ghost use Rattle.geometry.specs.Lines.{IsBetween};
+ghost use Rattle.laws.specs.Retractions.{packed};
 ghost use Rattle.laws.specs.StrictLists.{placed};
 ghost use Rattle.accept.specs.declared.Verdict.the-variants.{Accepted};
+ghost use Rattle.accept.specs.Said.{Writes};
 ghost use Rattle.placing.specs.Placed.{posAt};
 ghost use Rattle.board.specs.Gate.{gateOf};
 ghost use Rattle.board.specs.Moving.{placedOn};
 ghost use Rattle.strictness.specs.Strictly.{Today};
-ghost use Rattle.listing.specs.Listing.{fillFrom, roomFor, roomedIn};
+ghost use Rattle.listing.specs.Listing.{fillFrom, listedSays};
 ghost use Rattle.strict.specs.Searching.{testOf, Looks, Next};
 ghost use Rattle.strict.specs.Demand.{strictMoves};
 
@@ -120,7 +123,7 @@ fn fill(t: &[u64; 4096], p: Position, slots: &mut [u16])
 // Nothing is written before the room is known.
 pub fn list(t: &[u64; 4096], p: Position, slots: &mut [u16]) -> Listed
     requires { ⌜ IsBetween (now t) × Today p ⌝ }
-    ensures { λ r. ⌜ (r ≡ roomFor (strictMoves (posAt p)) (now (slots .entry))) × (now (slots .exit) ≡ roomedIn (strictMoves (posAt p)) (now (slots .entry))) ⌝ }
+    ensures { λ r. ⌜ Writes [] (map packed (strictMoves (posAt p))) (now (slots .entry)) (listedSays r) (now (slots .exit)) ⌝ }
 {
     let n = count(t, p);
     if n > slots.len() {

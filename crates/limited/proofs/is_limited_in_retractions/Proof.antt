@@ -1,6 +1,6 @@
 -- `limited::is_limited_in_retractions` meets its contract.
-use mathlib.Core.Path.{_∙_, sym}
 use borrow.Author.Needs.{needs}
+use Rattle.limited.proofs.Fitting.{limited-refused, limited-on}
 use Rattle.limited.proofs.is_limited_in_retractions.Statement.{statement}
 use Rattle.limited.proofs.is_limited_in_retractions.Tie as tie
 
@@ -20,10 +20,10 @@ limited-from-requires : tie.Need-limited-from-requires
 limited-from-requires c κs = search needs
 
 returns : tie.Need-returns
-returns c = rw (sym (c .before .before .before .gate .ensures) ∙ c .before .v .given .1)
+returns c = limited-refused _ _ (c .before .before .before .gate .ensures) (c .before .v .given .0 .0) (c .before .v .given .1)
 
 returns-2 : tie.Need-returns-2
-returns-2 c = rw (c .limited-from .ensures, sym (c .before .before .before .before .gate .ensures) ∙ c .before .before .enum-told .given .1)
+returns-2 c = limited-on _ _ (c .before .before .before .before .gate .ensures) (c .limited-from .result) (c .before .before .enum-told .given .1) (c .limited-from .ensures)
 
 pub is-limited-in-retractions-spec : {M : Type 1} → statement M
 is-limited-in-retractions-spec =

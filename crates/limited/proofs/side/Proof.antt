@@ -1,8 +1,4 @@
 -- `limited::side` meets its contract.
-use mathlib.Core.Path.{ap, _∙_}
-use Rattle.limited.specs.Limiting.{officersOn, sideOf}
-use Rattle.retraction_gen.specs.declared.RetractionGen.{RetractionGen}
-use Rattle.retraction_gen.specs.Cursors.{nextOf}
 use Rattle.limited.proofs.Fitting.{side-full, side-held}
 use borrow.Author.Needs.{needs}
 use Rattle.limited.proofs.side.Statement.{statement}
@@ -12,8 +8,7 @@ officer-list-requires : tie.Need-officer-list-requires
 officer-list-requires c κs = search needs
 
 returns : tie.Need-returns
-unfolding sideOf
-returns c = let a = c .before .before .before .before .args in side-full (officersOn (a .b) (a .turn) (a .passant)) _ _ (c .before .officer-list .ensures) (c .if1 .taken)
+returns c = let a = c .before .before .before .before .args in side-full (a .b) (a .turn) (a .passant) _ (c .before .officer-list .ensures) (c .if1 .taken)
 
 candidates-requires : tie.Need-candidates-requires
 candidates-requires c κs = search needs
@@ -31,12 +26,10 @@ enum-told-2 : tie.Need-enum-told-2
 enum-told-2 c = search needs
 
 returns-2 : tie.Need-returns-2
-unfolding sideOf
-returns-2 c = side-held _ _ _ _ _ _ (c .before .before .before .before .before .before .officer-list .ensures) (c .before .before .before .before .before .if1 .left) (c .before .before .before .before .candidates .ensures) (c .before .before .next .ensures ∙ ap (λ (g : RetractionGen). nextOf g) (c .before .before .before .started .ensures)) (c .enum-told .given .1)
+returns-2 c = side-held _ _ _ _ (c .before .before .before .before .before .before .officer-list .ensures) _ _ _ (c .before .before .before .before .before .if1 .left) (c .before .before .before .before .candidates .ensures) (rw (c .before .before .before .started .ensures) at (c .before .before .next .ensures)) (c .enum-told .given .1)
 
 returns-3 : tie.Need-returns-3
-unfolding sideOf
-returns-3 c = side-held _ _ _ _ _ _ (c .before .before .before .before .before .before .officer-list .ensures) (c .before .before .before .before .before .if1 .left) (c .before .before .before .before .candidates .ensures) (c .before .before .next .ensures ∙ ap (λ (g : RetractionGen). nextOf g) (c .before .before .before .started .ensures)) (c .enum-told2 .given .1)
+returns-3 c = side-held _ _ _ _ (c .before .before .before .before .before .before .officer-list .ensures) _ _ _ (c .before .before .before .before .before .if1 .left) (c .before .before .before .before .candidates .ensures) (rw (c .before .before .before .started .ensures) at (c .before .before .next .ensures)) (c .enum-told2 .given .1)
 
 pub side-spec : {M : Type 1} → statement M
 side-spec =

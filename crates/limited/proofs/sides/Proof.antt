@@ -1,7 +1,9 @@
 -- `limited::sides` meets its contract.
-use mathlib.Core.Path.{refl, _∙_, sym}
+use mathlib.Core.Path.{sym, ap, _∙_}
 use borrow.Author.Needs.{needs}
-use Rattle.limited.specs.Limiting.{sidesOf}
+use Rattle.limited.specs.declared.Limited.the-variants.{Yes, No, Refused}
+use Rattle.limited.specs.Limiting.{limitedSays, sidesOf}
+use Rattle.limited.proofs.Fitting.{side-then}
 use Rattle.limited.proofs.sides.Statement.{statement}
 use Rattle.limited.proofs.sides.Tie as tie
 
@@ -25,15 +27,15 @@ side-requires-2 c κs = search needs
 
 returns : tie.Need-returns
 unfolding sidesOf
-returns c = rw (sym (c .before .before .side .ensures) ∙ c .enum-told .given .1)
+returns c = side-then _ _ _ _ Yes (ap limitedSays (sym (c .enum-told .given .1)) ∙ c .before .before .side .ensures)
 
 returns-2 : tie.Need-returns-2
 unfolding sidesOf
-returns-2 c = rw (sym (c .before .before .before .side .ensures) ∙ c .before .first .given .1)
+returns-2 c = side-then _ _ _ _ (Refused (c .before .first .given .0 .0)) (ap limitedSays (sym (c .before .first .given .1)) ∙ c .before .before .before .side .ensures)
 
 returns-3 : tie.Need-returns-3
 unfolding sidesOf
-returns-3 c = rw (c .side2 .ensures, c .before .other .ensures, sym (c .before .before .before .before .side .ensures) ∙ c .before .before .enum-told2 .given .1) refl
+returns-3 c = rw (c .side2 .ensures, c .before .other .ensures) (side-then _ _ _ _ No (ap limitedSays (sym (c .before .before .enum-told2 .given .1)) ∙ c .before .before .before .before .side .ensures))
 
 pub sides-spec : {M : Type 1} → statement M
 sides-spec =

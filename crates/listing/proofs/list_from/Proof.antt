@@ -1,12 +1,8 @@
 -- `listing::list_from` meets its contract.
-use mathlib.Core.Path.{_≡_, sym, _∙_}
-use Prim.Native.Nat.{_≤_}
 use native.Mathlib.Omega.{arith}
-use lib.ListN.{length}
-use borrow.Author.Tests.{le-leb, lt-leb}
 use borrow.Author.Needs.{needs}
 use Rattle.retraction_gen.specs.Rest.{restOf}
-use Rattle.listing.proofs.Filling.{filled-is}
+use Rattle.listing.proofs.Telling.{listed-roomless, listed-written}
 use Rattle.listing.proofs.list_from.Statement.{statement}
 use Rattle.listing.proofs.list_from.Tie as tie
 
@@ -14,7 +10,7 @@ count-requires : tie.Need-count-requires
 count-requires c κs = search needs
 
 returns : tie.Need-returns
-returns c = let h : length (restOf (c .before .before .before .args .g)) ≡ c .before .count .result = sym (c .before .count .ensures) in (rw (h, lt-leb _ _ (c .if1 .taken)), rw (h, lt-leb _ _ (c .if1 .taken)))
+returns c = listed-roomless (restOf (c .before .before .before .args .g)) _ (c .before .count .ensures) (c .if1 .taken)
 
 fill-requires : tie.Need-fill-requires
 fill-requires c κs = (c .before .before .before .before .pre .0, omega (arith, c .before .before .count .ensures, c .before .if1 .left))
@@ -23,7 +19,7 @@ same-length : tie.Need-same-length
 same-length c = search needs
 
 returns-2 : tie.Need-returns-2
-returns-2 c = let h : length (restOf (c .before .before .before .before .before .before .before .args .g)) ≡ c .before .before .before .before .before .count .result = sym (c .before .before .before .before .before .count .ensures) in let l : length (restOf (c .before .before .before .before .before .before .before .args .g)) ≤ length (c .before .before .before .before .before .before .before .args .slots .now) = omega (arith, h, c .before .before .before .before .if1 .left) in (rw (h, le-leb _ _ (c .before .before .before .before .if1 .left)), c .before .before .fill .ensures ∙ rw (le-leb _ _ l) (filled-is _ _ l))
+returns-2 c = listed-written (restOf (c .before .before .before .before .before .before .before .args .g)) _ (c .before .before .before .before .before .count .ensures) (c .before .before .before .before .if1 .left) (c .before .before .fill .ensures)
 
 pub list-from-spec : {M : Type 1} → statement M
 list-from-spec = tie.close (tie.spec count-requires returns fill-requires same-length returns-2)

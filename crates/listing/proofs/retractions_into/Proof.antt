@@ -1,5 +1,4 @@
 -- `listing::retractions_into` meets its contract.
-use mathlib.Core.Path.{_∙_}
 use borrow.Author.Needs.{needs}
 use Rattle.listing.proofs.Told.{made-ready, told, refused-told}
 use Rattle.listing.proofs.retractions_into.Statement.{statement}
@@ -24,7 +23,7 @@ same-length : tie.Need-same-length
 same-length c = search needs
 
 returns-2 : tie.Need-returns-2
-returns-2 c = let t = told _ _ (c .before .before .before .before .before .before .before .new-legal .ensures) (c .before .before .before .before .before .before .before .before .before .args .slots .now) (c .before .before .before .before .enum-told .given .1) in (c .before .before .list-from .ensures .0 ∙ t .0, c .before .before .list-from .ensures .1 ∙ t .1)
+returns-2 c = told _ _ (c .before .before .before .before .before .before .before .new-legal .ensures) _ _ (c .before .before .list-from .result) (c .before .before .before .before .enum-told .given .1) (c .before .before .list-from .ensures)
 
 pub retractions-into-spec : {M : Type 1} → statement M
 retractions-into-spec =

@@ -1,7 +1,11 @@
 -- `retraction_gen::made_from` meets its contract.
+use mathlib.Core.Path.{sym, ap, _∙_}
 use borrow.Author.Needs.{needs}
-use Rattle.retraction_gen.specs.Making.{madeFrom, listOn, masksOn}
-use Rattle.retraction_gen.proofs.Filled.{made-full, made-held}
+use Rattle.accept.specs.declared.Refusal.the-variants.{Full}
+use Rattle.accept.specs.Verdicts.{verdictNumber}
+use Rattle.retraction_gen.specs.Making.{listOn, masksOn, cursorOn}
+use Rattle.accept.proofs.Tested.{beside-none, beside-refused}
+use Rattle.retraction_gen.proofs.Filled.{held-is, full-fails, held-passes}
 use Rattle.retraction_gen.proofs.made_from.Statement.{statement}
 use Rattle.retraction_gen.proofs.made_from.Tie as tie
 
@@ -12,8 +16,10 @@ refused-requires : tie.Need-refused-requires
 refused-requires c κs = search needs
 
 returns : tie.Need-returns
-unfolding madeFrom listOn masksOn
-returns c = rw (c .refused .ensures) (made-full _ _ _ (c .before .before .enumerate .ensures) (c .before .if1 .taken))
+unfolding listOn
+returns c =
+    let h = full-fails _ _ (c .before .before .enumerate .ensures) (c .before .if1 .taken) in
+    record { number = ap verdictNumber (c .refused .ensures .0) ∙ h; cursor = c .refused .ensures .1 ∙ beside-refused _ _ _ Full h }
 
 candidates-requires : tie.Need-candidates-requires
 candidates-requires c κs = search needs
@@ -22,8 +28,12 @@ started-requires : tie.Need-started-requires
 started-requires c κs = search needs
 
 returns-2 : tie.Need-returns-2
-unfolding madeFrom listOn masksOn
-returns-2 c = rw (c .started .ensures, c .before .candidates .ensures) (made-held _ _ _ (c .before .before .before .enumerate .ensures) (c .before .before .if1 .left))
+unfolding cursorOn listOn masksOn
+returns-2 c =
+    let e = c .before .before .before .enumerate .ensures in
+    let f = c .before .before .if1 .left in
+    let h = held-passes _ _ e f in
+    record { number = sym h; cursor = rw (c .started .ensures, c .before .candidates .ensures, held-is _ _ e f) (beside-none _ _ _ h) }
 
 pub made-from-spec : {M : Type 1} → statement M
 made-from-spec =

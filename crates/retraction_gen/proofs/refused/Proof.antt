@@ -1,6 +1,7 @@
 -- `retraction_gen::refused` meets its contract.
+use mathlib.Core.Path.{refl}
 use borrow.Author.Needs.{needs}
-use Rattle.retraction_gen.specs.Making.{refusedMade}
+use Rattle.retraction_gen.specs.Making.{noCursor}
 use Rattle.retraction_gen.proofs.refused.Statement.{statement}
 use Rattle.retraction_gen.proofs.refused.Tie as tie
 
@@ -11,8 +12,8 @@ started-requires : tie.Need-started-requires
 started-requires c κs = search needs
 
 returns : tie.Need-returns
-unfolding refusedMade
-returns c = rw (c .started .ensures, c .before .overfull .ensures)
+unfolding noCursor
+returns c = (refl, rw (c .started .ensures, c .before .overfull .ensures))
 
 pub refused-spec : {M : Type 1} → statement M
 refused-spec = tie.close (tie.spec overfull-requires started-requires returns)

@@ -1,7 +1,8 @@
 -- `retraction_gen::uncaptured_candidates` meets its contract.
-use mathlib.Core.Path.{_∙_, sym}
+use mathlib.Core.Path.{refl}
 use borrow.Author.Needs.{needs}
 use Rattle.retraction_gen.specs.Making.{masksOn}
+use Rattle.retraction_gen.proofs.Gated.{masked-refused, masked-on}
 use Rattle.retraction_gen.proofs.uncaptured_candidates.Statement.{statement}
 use Rattle.retraction_gen.proofs.uncaptured_candidates.Tie as tie
 
@@ -21,11 +22,11 @@ candidates-requires : tie.Need-candidates-requires
 candidates-requires c κs = search needs
 
 returns : tie.Need-returns
-returns c = rw (sym (c .before .before .before .gate .ensures) ∙ c .before .v .given .1)
+returns c = masked-refused _ _ (c .before .before .before .gate .ensures) _ _ (c .before .v .given .1) (refl, refl)
 
 returns-2 : tie.Need-returns-2
 unfolding masksOn
-returns-2 c = rw (sym (c .before .before .before .before .before .gate .ensures) ∙ c .before .before .before .enum-told .given .1, c .candidates .ensures)
+returns-2 c = masked-on _ _ (c .before .before .before .before .before .gate .ensures) _ (c .before .before .before .enum-told .given .1) (refl, c .candidates .ensures)
 
 pub uncaptured-candidates-spec : {M : Type 1} → statement M
 uncaptured-candidates-spec =

@@ -30,7 +30,7 @@ same-length : tie.Need-same-length
 same-length c = search needs
 
 returns-2 : tie.Need-returns-2
-returns-2 c = listed-told _ _ (sym (c .before .before .before .before .before .before .before .before .gate .ensures) ∙ c .before .before .before .before .before .before .enum-told .given .1) (rw (c .before .before .before .before .before .today .ensures .0) at (c .before .before .list .ensures))
+returns-2 c = listed-told _ (c .before .before .list .result) (sym (c .before .before .before .before .before .before .before .before .gate .ensures) ∙ c .before .before .before .before .before .before .enum-told .given .1) (rw (c .before .before .before .before .before .today .ensures .0) at (c .before .before .list .ensures))
 
 pub strict-into-spec : {M : Type 1} → statement M
 strict-into-spec =

@@ -1,7 +1,6 @@
 -- `retraction_gen::RetractionGen::new_legal` meets its contract.
-use mathlib.Core.Path.{_∙_, sym}
 use borrow.Author.Needs.{needs}
-use Rattle.retraction_gen.specs.Making.{madeFrom}
+use Rattle.retraction_gen.proofs.Gated.{makes-refused, makes-on}
 use Rattle.retraction_gen.proofs.RetractionGen.new_legal.Statement.{statement}
 use Rattle.retraction_gen.proofs.RetractionGen.new_legal.Tie as tie
 
@@ -24,11 +23,10 @@ made-from-requires : tie.Need-made-from-requires
 made-from-requires c κs = search needs
 
 returns : tie.Need-returns
-returns c = rw (c .refused .ensures, sym (c .before .before .before .before .gate .ensures) ∙ c .before .before .v .given .1)
+returns c = makes-refused _ _ (c .before .before .before .before .gate .ensures) _ _ (c .before .before .v .given .1) (c .refused .ensures)
 
 returns-2 : tie.Need-returns-2
-unfolding madeFrom
-returns-2 c = rw (c .made-from .ensures, sym (c .before .before .before .before .gate .ensures) ∙ c .before .before .enum-told .given .1)
+returns-2 c = makes-on _ _ (c .before .before .before .before .gate .ensures) _ (c .before .before .enum-told .given .1) (c .made-from .ensures)
 
 pub new-legal-spec : {M : Type 1} → statement M
 new-legal-spec =

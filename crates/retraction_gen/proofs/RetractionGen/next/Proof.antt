@@ -3,10 +3,10 @@ use mathlib.Core.Path.{_≡_, sym, ap, _∙_}
 use mathlib.Core.Bool.{Bool, cond}
 use borrow.Author.Needs.{needs}
 use borrow.Author.Tests.{not-true, not-false}
-use Rattle.retraction_gen.specs.declared.Next.the-variants.{Retraction, End}
 use Rattle.retraction_gen.specs.declared.Turned.{Turned}
 use Rattle.retraction_gen.specs.declared.Turn.the-variants.{Again}
-use Rattle.retraction_gen.specs.Cursors.{stepped, stepOf, nextOf, fuel, turnOf}
+use Rattle.retraction_gen.specs.Cursors.{retractionSaid, endSaid, back, stepOf, nextOf, fuel, turnOf}
+use Rattle.retraction_gen.proofs.Stepping.{steps}
 use Rattle.retraction_gen.proofs.Going.{again-less, step-again, step-found, step-over}
 use Rattle.retraction_gen.proofs.RetractionGen.next.Statement.{statement}
 use Rattle.retraction_gen.proofs.RetractionGen.next.Tie as tie
@@ -21,12 +21,12 @@ well-formed-requires : tie.Need-well-formed-requires Inv-loop μ-loop
 well-formed-requires c κs = search needs
 
 returns : tie.Need-returns Inv-loop μ-loop
-returns c = rw (← c .before .well-formed .ensures, not-true (c .before .well-formed .result) (c .if1 .taken))
+returns c = steps _ _ _ (rw (← c .before .well-formed .ensures, not-true (c .before .well-formed .result) (c .if1 .taken)))
 
 loop-holds : tie.Need-loop-holds Inv-loop μ-loop
 loop-holds c =
     let g = c .before .before .args .self in
-    ap (λ (t : Bool). cond t (stepOf g) (stepped g End)) (sym (c .before .well-formed .ensures) ∙ not-false _ (c .if1 .left))
+    ap (λ (t : Bool). cond t (stepOf g) (back g endSaid)) (sym (c .before .well-formed .ensures) ∙ not-false _ (c .if1 .left))
 
 one-turn-requires : tie.Need-one-turn-requires Inv-loop μ-loop
 one-turn-requires c κs = search needs
@@ -49,20 +49,18 @@ enum-known-turn c = search needs
 
 returns-2 : tie.Need-returns-2 Inv-loop μ-loop
 returns-2 c =
-    sym
-    (c .before .before .before .before .before .loop .inv
+    steps _ _ _ (c .before .before .before .before .before .loop .inv
     ∙ step-found _ _ (ap (λ (t : Turned). t .turn) (sym (c .before .before .before .before .one-turn .ensures)) ∙ c .before .turn .given .1)
-    ∙ ap (λ (t : Turned). stepped (t .cursor) (Retraction (c .before .turn .given .0 .0))) (sym (c .before .before .before .before .one-turn .ensures)))
+    ∙ ap (λ (t : Turned). back (t .cursor) (retractionSaid (c .before .turn .given .0 .0))) (sym (c .before .before .before .before .one-turn .ensures)))
 
 enum-told-2 : tie.Need-enum-told-2 Inv-loop μ-loop
 enum-told-2 c = search needs
 
 returns-3 : tie.Need-returns-3 Inv-loop μ-loop
 returns-3 c =
-    sym
-    (c .before .before .before .before .loop .inv
+    steps _ _ _ (c .before .before .before .before .loop .inv
     ∙ step-over _ (ap (λ (t : Turned). t .turn) (sym (c .before .before .before .one-turn .ensures)) ∙ c .enum-told2 .given .1)
-    ∙ ap (λ (t : Turned). stepped (t .cursor) End) (sym (c .before .before .before .one-turn .ensures)))
+    ∙ ap (λ (t : Turned). back (t .cursor) endSaid) (sym (c .before .before .before .one-turn .ensures)))
 
 pub next-spec : {M : Type 1} → statement M
 next-spec =
