@@ -208,7 +208,7 @@ fn stop(line: &[u8], at: usize) -> usize
 // The board of the text at a place.
 fn read(line: &[u8], at: usize) -> Boarded {
     if at > line.len() {
-        return board::board_by(Verdict::Refused(Refusal::Text), board::no_board());
+        return board::inner::board_by(Verdict::Refused(Refusal::Text), board::no_board());
     }
     let end = stop(line, at);
     text::read(&line[at..end])
@@ -217,7 +217,7 @@ fn read(line: &[u8], at: usize) -> Boarded {
 // The same by refusals 14 and 1 to 5 alone.
 fn read_earlier(line: &[u8], at: usize) -> Boarded {
     if at > line.len() {
-        return board::board_by(Verdict::Refused(Refusal::Text), board::no_board());
+        return board::inner::board_by(Verdict::Refused(Refusal::Text), board::no_board());
     }
     let end = stop(line, at);
     earlier(text::inner::read_raw(&line[at..end]))
@@ -226,7 +226,7 @@ fn read_earlier(line: &[u8], at: usize) -> Boarded {
 fn earlier(raw: Raw) -> Boarded {
     let form = raw.verdict;
     match form {
-        text::Verdict::OutOfForm => board::board_by(
+        text::Verdict::OutOfForm => board::inner::board_by(
             Verdict::Refused(Refusal::Text),
             board::no_board(),
         ),
@@ -237,7 +237,8 @@ fn earlier(raw: Raw) -> Boarded {
             let white = raw.white;
             let black = raw.black;
             let passant = raw.passant;
-            RetractableBoard::earlier(pieces, colors, turn, white, black, passant)
+            let t = tables::between_table();
+            board::inner::earlier_from(&t, pieces, colors, turn, white, black, passant)
         }
     }
 }

@@ -3,32 +3,36 @@ use mathlib.Core.Path.{_≡_, refl}
 use mathlib.Core.Bool.{true, not}
 use mathlib.Core.List.{List}
 use Prim.Native.Nat.{ℕ, zero, suc, _/_}
-use lib.Dec.{eqb}
+use lib.Dec.{eqb, ltb}
 use lib.ListN.{length}
 use borrow.Author.Tests.{eqb-true}
 use Rattle.squares.specs.Tests.{_and_}
 use Rattle.geometry.specs.declared.Color.{Color}
 use Rattle.geometry.specs.declared.Color.the-variants.{White, Black}
 use Rattle.laws.specs.declared.Piece.the-variants.{Pawn, Knight, Bishop, Rook, Queen, King}
+use Rattle.laws.specs.declared.CastleRights.{CastleRights}
 use Rattle.laws.specs.declared.EnPassantFlag.{EnPassantFlag}
 use Rattle.laws.specs.Men.{Man, empty, man, manNumber}
 use Rattle.laws.specs.Attacks.{unionOf, checkersOf, pinsOf}
 use Rattle.laws.specs.Positions.{Rights, rightsOf}
 use Rattle.laws.specs.Acceptance.{kingsOk, pawnsOk, rightsOk, stateOk, quiet, accepted}
 use Rattle.laws.specs.Boards.{menAt, menOk, Clean}
-use Rattle.accept.specs.declared.Refusal.the-variants.{Men as men, Kings as kings, Check as check, Stale}
+use Rattle.accept.specs.declared.Refusal.the-variants.{Men as men, Kings as kings, Check as check, Stale, Source, Passant}
 use Rattle.accept.specs.declared.Verdict.the-variants.{Accepted}
 use Rattle.accept.specs.Verdicts.{verdictNumber, unless, andThen, firstOf, thirdOf, fiveOf, judgedOf}
 use Rattle.accept.specs.Said.{firstFailing, rawTests}
 use Rattle.board.specs.declared.RetractableBoard.{RetractableBoard}
+use Rattle.board.specs.declared.Boarded.{Boarded}
 use Rattle.board.specs.declared.PieceOn.the-variants.{Kind}
 use Rattle.board.specs.Gate.{menOn, posOn, freshBy, gateBy, gateOf, boardTests}
-use Rattle.board.specs.Answers.{kindOn, pieceNumbered}
+use Rattle.board.specs.Said.{Boards}
+use Rattle.board.specs.Answers.{workedOf, newOf, askTests, askGate, kindOn, pieceNumbered, stateTests, stateGate}
 use Rattle.squares.proofs.Testing.{both, left, right, agree, agree-eq}
 use Rattle.laws.proofs.Cases.{by-cases}
 use Rattle.laws.proofs.Cleaning.{Bounded, clean}
 use Rattle.accept.proofs.Saying.{then-number, judged-number}
 use Rattle.accept.proofs.Numbered.{Five, both-accept, test-passes, judged-passes}
+use Rattle.board.proofs.Saying.{boards-is}
 
 -- arrays that pass 1 to 6
 pub judged-clean : (pieces colors : List ℕ) (c : Color) (ρ : Rights) (st : EnPassantFlag) → length pieces ≡ 6 → length colors ≡ 2 → Bounded pieces → Bounded colors
@@ -37,12 +41,23 @@ judged-clean pieces colors c ρ st six two bp bc h =
     let f = judged-passes pieces colors c ρ st h .0 in
     (clean pieces colors six two bp bc (f .men-pass), f .kings-pass)
 
+-- what raw men answer, by the verdict
+pub new-is : (pieces colors : List ℕ) (c : Color) (w b : CastleRights) (st : EnPassantFlag) (r : Boarded)
+    → Boards (rawTests pieces colors c (rightsOf w b) st) (workedOf pieces colors c w b st) r → r ≡ newOf pieces colors c w b st
+new-is pieces colors c w b st =
+    boards-is (judgedOf pieces colors c (rightsOf w b) st) (rawTests pieces colors c (rightsOf w b) st) (workedOf pieces colors c w b st)
+    (judged-number pieces colors c (rightsOf w b) st)
+
 -- a board that passes 1 to 7
 pub gate-judged : (b : RetractableBoard) → gateOf b ≡ Accepted → judgedOf (b .pieces) (b .colors) (b .turn) (rightsOf (b .white) (b .black)) (b .passant) ≡ Accepted
 unfolding gateBy
 gate-judged b h =
     both-accept (judgedOf (b .pieces) (b .colors) (b .turn) (rightsOf (b .white) (b .black)) (b .passant))
     (unless (freshBy (menOn b) (b .turn) (b .combined) (b .checkers) (b .pinned)) Stale Accepted) h .0
+
+pub gate-clean : (b : RetractableBoard) → length (b .pieces) ≡ 6 → length (b .colors) ≡ 2 → Bounded (b .pieces) → Bounded (b .colors) → gateOf b ≡ Accepted
+    → Clean (b .pieces) (b .colors) × (kingsOk (menOn b) ≡ true)
+gate-clean b six two bp bc h = judged-clean (b .pieces) (b .colors) (b .turn) (rightsOf (b .white) (b .black)) (b .passant) six two bp bc (gate-judged b h)
 
 pub record Passed (b : RetractableBoard) : Type 0 where
   pub men-agree : menOk (b .pieces) (b .colors) ≡ true
@@ -81,6 +96,18 @@ gate-number b =
     (rawTests (b .pieces) (b .colors) (b .turn) (rightsOf (b .white) (b .black)) (b .passant))
     (freshBy (menOn b) (b .turn) (b .combined) (b .checkers) (b .pinned)) Stale
     (judged-number (b .pieces) (b .colors) (b .turn) (rightsOf (b .white) (b .black)) (b .passant))
+
+pub ask-number : (b : RetractableBoard) (sq : ℕ) → verdictNumber (askGate b sq) ≡ firstFailing (askTests b sq)
+ask-number b sq = then-number (gateOf b) (boardTests b) (ltb sq 64) Source (gate-number b)
+
+pub state-number : (b : RetractableBoard) (st : EnPassantFlag) → verdictNumber (stateGate b st) ≡ firstFailing (stateTests b st)
+state-number b st = then-number (gateOf b) (boardTests b) (stateOk (menOn b) (b .turn) st) Passant (gate-number b)
+
+-- a square that may be asked about
+pub ask-accepted : (b : RetractableBoard) (sq : ℕ) → askGate b sq ≡ Accepted → (gateOf b ≡ Accepted) × (ltb sq 64 ≡ true)
+ask-accepted b sq h =
+    let k = both-accept (gateOf b) (unless (ltb sq 64) Source Accepted) h in
+    (k .0, test-passes (ltb sq 64) Source Accepted (k .1) .0)
 
 -- 7 is given exactly when 1 to 6 pass and union, checkers or pins are not those of the men
 pub stale-exactly : (b : RetractableBoard)

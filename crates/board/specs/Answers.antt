@@ -1,6 +1,6 @@
--- What each method answers.
-use mathlib.Core.Bool.{Bool, true, false, cond}
-use mathlib.Core.List.{List}
+-- What each method answers, and the tests that it makes.
+use mathlib.Core.Bool.{Bool, true, false}
+use mathlib.Core.List.{List, [], _∷_, _++_}
 use Prim.Native.Nat.{ℕ, zero, suc}
 use lib.Dec.{ltb}
 use Rattle.geometry.specs.declared.Color.{Color}
@@ -8,22 +8,23 @@ use Rattle.laws.specs.declared.Piece.the-variants.{Pawn, Knight, Bishop, Rook, 
 use Rattle.laws.specs.declared.CastleRights.{CastleRights}
 use Rattle.laws.specs.declared.EnPassantFlag.{EnPassantFlag}
 use Rattle.laws.specs.declared.EnPassantFlag.the-variants.{Any, Some, None}
-use Rattle.laws.specs.Men.{Man, empty, man, Men}
-use Rattle.laws.specs.Attacks.{attacked, unionOf, checkersOf, pinsOf}
+use Rattle.laws.specs.Men.{Man, empty, man}
+use Rattle.laws.specs.Attacks.{unionOf, checkersOf, pinsOf}
 use Rattle.laws.specs.Positions.{rightsOf}
 use Rattle.laws.specs.Acceptance.{stateOk}
 use Rattle.laws.specs.Boards.{menAt}
 use Rattle.accept.specs.declared.Refusal.the-variants.{Source, Passant}
 use Rattle.accept.specs.declared.Verdict.{Verdict}
-use Rattle.accept.specs.declared.Verdict.the-variants.{Accepted, Refused}
+use Rattle.accept.specs.declared.Verdict.the-variants.{Accepted}
 use Rattle.accept.specs.Verdicts.{unless, andThen, judgedOf}
+use Rattle.accept.specs.Said.{Test, _else_}
 use Rattle.board.specs.declared.RetractableBoard.{RetractableBoard}
 use Rattle.board.specs.declared.Boarded.{Boarded}
 use Rattle.board.specs.declared.PieceOn.{PieceOn}
-use Rattle.board.specs.declared.PieceOn.the-variants.{Nobody, Kind, Refused as notAsked}
+use Rattle.board.specs.declared.PieceOn.the-variants.{Nobody, Kind}
 use Rattle.board.specs.declared.Attacked.{Attacked}
-use Rattle.board.specs.declared.Attacked.the-variants.{Yes, No, Refused as notTold}
-use Rattle.board.specs.Gate.{menOn, gateOf, boardedBy}
+use Rattle.board.specs.declared.Attacked.the-variants.{Yes, No}
+use Rattle.board.specs.Gate.{menOn, gateOf, boardTests, boardedBy}
 
 -- a board of raw men, its union, pins and checkers worked out
 abbrev pub workedOf : List ℕ → List ℕ → Color → CastleRights → CastleRights → EnPassantFlag → RetractableBoard
@@ -43,6 +44,13 @@ workedOf p k c w b st = record {
 abbrev pub newOf : List ℕ → List ℕ → Color → CastleRights → CastleRights → EnPassantFlag → Boarded
 newOf p k c w b st = boardedBy (judgedOf p k c (rightsOf w b) st) (workedOf p k c w b st)
 
+-- "`piece_on` and `is_attacked` test 9 for their square", behind 1 to 7
+abbrev pub askTests : RetractableBoard → ℕ → List Test
+askTests b sq = boardTests b ++ ((ltb sq 64 else Source) ∷ [])
+
+abbrev pub askGate : RetractableBoard → ℕ → Verdict
+askGate b sq = andThen (gateOf b) (unless (ltb sq 64) Source Accepted)
+
 -- the kind on a square
 abbrev pub kindOn : Man → PieceOn
 kindOn empty = Nobody
@@ -58,25 +66,16 @@ pieceNumbered (suc (suc (suc (suc zero)))) = Kind Rook
 pieceNumbered (suc (suc (suc (suc (suc zero))))) = Kind Queen
 pieceNumbered (suc (suc (suc (suc (suc (suc n)))))) = Kind King
 
--- `piece_on`: 1 to 7, then 9 for the square
-abbrev pub pieceAfter : Verdict → ℕ → Men → PieceOn
-pieceAfter (Refused r) sq m = notAsked r
-pieceAfter Accepted sq m = cond (ltb sq 64) (kindOn (m sq)) (notAsked Source)
-
-abbrev pub pieceOnOf : RetractableBoard → ℕ → PieceOn
-pieceOnOf b sq = pieceAfter (gateOf b) sq (menOn b)
-
--- `is_attacked`: 1 to 7, then 9 for the square
 abbrev pub toldBy : Bool → Attacked
 toldBy true = Yes
 toldBy false = No
 
-abbrev pub attackedAfter : Verdict → ℕ → Color → Men → Attacked
-attackedAfter (Refused r) sq c m = notTold r
-attackedAfter Accepted sq c m = cond (ltb sq 64) (toldBy (attacked m c sq)) (notTold Source)
+-- "`set_en_passant` tests 5 again for its new state (none after unknown is allowed, on its caller's word)"
+abbrev pub stateTests : RetractableBoard → EnPassantFlag → List Test
+stateTests b st = boardTests b ++ ((stateOk (menOn b) (b .turn) st else Passant) ∷ [])
 
-abbrev pub attackedOf : RetractableBoard → ℕ → Color → Attacked
-attackedOf b sq c = attackedAfter (gateOf b) sq c (menOn b)
+abbrev pub stateGate : RetractableBoard → EnPassantFlag → Verdict
+stateGate b st = andThen (gateOf b) (unless (stateOk (menOn b) (b .turn) st) Passant Accepted)
 
 abbrev pub withPassant : RetractableBoard → EnPassantFlag → RetractableBoard
 withPassant b st = record {
@@ -91,18 +90,8 @@ withPassant b st = record {
   passant = st;
 }
 
--- "`set_en_passant` tests 5 again for its new state (none after unknown is allowed, on its caller's word)"
-abbrev pub passantVerdict : RetractableBoard → EnPassantFlag → Verdict
-passantVerdict b st = andThen (gateOf b) (unless (stateOk (menOn b) (b .turn) st) Passant Accepted)
-
-abbrev pub setPassantOf : RetractableBoard → EnPassantFlag → Boarded
-setPassantOf b st = boardedBy (passantVerdict b st) (withPassant b st)
-
 -- `set_uncertain_ep`: none becomes unknown, all else stays
 abbrev pub uncertain : EnPassantFlag → EnPassantFlag
 uncertain Any = Any
 uncertain (Some q) = Some q
 uncertain None = Any
-
-abbrev pub uncertainOf : RetractableBoard → Boarded
-uncertainOf b = boardedBy (gateOf b) (withPassant b (uncertain (b .passant)))

@@ -85,6 +85,10 @@ noBoard = record {
   passant = Any;
 }
 
+-- b where nothing is refused, else the empty board
+abbrev pub keptBy : Verdict → RetractableBoard → RetractableBoard
+keptBy Accepted b = b
+keptBy (Refused r) b = noBoard
+
 abbrev pub boardedBy : Verdict → RetractableBoard → Boarded
-boardedBy Accepted b = record { verdict = Accepted; board = b }
-boardedBy (Refused r) b = record { verdict = Refused r; board = noBoard }
+boardedBy v b = record { verdict = v; board = keptBy v b }

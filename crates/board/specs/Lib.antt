@@ -1,3 +1,4 @@
 pub mod Gate
+pub mod Said
 pub mod Answers
 pub mod Moving

@@ -1,4 +1,4 @@
-// The gate, and a board from raw men, over a lent table of squares between.
+// The gate, what stands beside its verdict, and a board from raw men, over a lent table of squares between.
 use super::Boarded;
 use super::RetractableBoard;
 use accept::Refusal;
@@ -11,11 +11,29 @@ ghost use mathlib.Core.Bool.{true, not};
 ghost use Rattle.geometry.specs.Lines.{IsBetween};
 ghost use Rattle.laws.specs.Acceptance.{kingsOk};
 ghost use Rattle.laws.specs.Boards.{menAt, Clean};
-ghost use Rattle.board.specs.Gate.{freshBy, staleAfter, gateOf, boardedBy, Kept};
-ghost use Rattle.board.specs.Answers.{workedOf, newOf};
+ghost use Rattle.board.specs.Gate.{freshBy, staleAfter, gateOf, keptBy, boardedBy, Kept};
+ghost use Rattle.board.specs.Answers.{workedOf, newOf, askGate, stateGate};
 ghost use Rattle.board.specs.Moving.{earlierOf};
 
 pub mod moving; // moving.rt: un-make and replay of a board
+
+// The board where nothing is refused, else the empty one.
+pub fn kept(v: Verdict, b: RetractableBoard) -> RetractableBoard
+    ensures { λ r. ⌜ r ≡ keptBy v b ⌝ }
+{
+    match v {
+        Verdict::Accepted => b,
+        Verdict::Refused(_) => super::no_board(),
+    }
+}
+
+// The same beside the verdict.
+pub fn board_by(v: Verdict, b: RetractableBoard) -> Boarded
+    ensures { λ r. ⌜ r ≡ boardedBy v b ⌝ }
+{
+    let board = kept(v, b);
+    Boarded { verdict: v, board }
+}
 
 // 7 STALE
 pub fn stale(
@@ -76,6 +94,43 @@ pub fn gate(t: &[u64; 4096], b: RetractableBoard) -> Verdict
     stale_after(t, v, pieces, colors, turn, b.combined, b.checkers, b.pinned)
 }
 
+// Refusals 1 to 7, then 9 for a square asked about.
+pub fn ask_gate(t: &[u64; 4096], b: RetractableBoard, sq: u8) -> Verdict
+    requires { ⌜ IsBetween (now t) ⌝ }
+    ensures { λ v. ⌜ v ≡ askGate b sq ⌝ }
+{
+    let v = gate(t, b);
+    match v {
+        Verdict::Refused(r) => Verdict::Refused(r),
+        Verdict::Accepted => {
+            if sq > 63 {
+                return Verdict::Refused(Refusal::Source);
+            }
+            Verdict::Accepted
+        }
+    }
+}
+
+// Refusals 1 to 7, then 5 for another state.
+pub fn state_gate(t: &[u64; 4096], b: RetractableBoard, passant: EnPassantFlag) -> Verdict
+    requires { ⌜ IsBetween (now t) ⌝ }
+    ensures { λ v. ⌜ v ≡ stateGate b passant ⌝ }
+{
+    let v = gate(t, b);
+    match v {
+        Verdict::Refused(r) => Verdict::Refused(r),
+        Verdict::Accepted => {
+            let pieces = b.pieces;
+            let colors = b.colors;
+            let turn = b.turn;
+            if accept::inner::tests::bad_passant(pieces, colors, turn, passant) {
+                return Verdict::Refused(Refusal::Passant);
+            }
+            Verdict::Accepted
+        }
+    }
+}
+
 // The union, checkers and pins of clean men, worked out.
 pub fn worked(
     t: &[u64; 4096],
@@ -120,10 +175,10 @@ pub fn worked_after(
     ensures { λ r. ⌜ r ≡ boardedBy v (workedOf pieces colors turn white black passant) ⌝ }
 {
     match v {
-        Verdict::Refused(r) => super::board_by(Verdict::Refused(r), super::no_board()),
+        Verdict::Refused(r) => board_by(Verdict::Refused(r), super::no_board()),
         Verdict::Accepted => {
             let b = worked(t, pieces, colors, turn, white, black, passant);
-            super::board_by(Verdict::Accepted, b)
+            board_by(Verdict::Accepted, b)
         }
     }
 }

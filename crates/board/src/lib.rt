@@ -7,9 +7,14 @@ use laws::Color;
 use laws::EnPassantFlag;
 use laws::Piece;
 ghost use mathlib.Core.Path.{_≡_};
-ghost use Rattle.board.specs.Gate.{gateOf, noBoard, boardedBy};
-ghost use Rattle.board.specs.Answers.{newOf, pieceOnOf, toldBy, attackedOf, passantVerdict, setPassantOf, uncertain, uncertainOf, pieceNumbered};
-ghost use Rattle.board.specs.Moving.{earlierOf, unmadeBoard, replayedBoard};
+ghost use mathlib.Core.List.{_++_};
+ghost use Rattle.laws.specs.Attacks.{attacked};
+ghost use Rattle.laws.specs.Positions.{rightsOf};
+ghost use Rattle.accept.specs.Said.{rawTests};
+ghost use Rattle.board.specs.Gate.{menOn, posOn, boardTests, noBoard};
+ghost use Rattle.board.specs.Said.{Boards, Tells, pieceSays, attackedSays};
+ghost use Rattle.board.specs.Answers.{workedOf, askTests, kindOn, pieceNumbered, toldBy, stateTests, withPassant, uncertain};
+ghost use Rattle.board.specs.Moving.{unmakeTests, unmadeOn, replayTests, replayedOn};
 
 pub mod inner; // inner.rt: the gate over a lent table
 
@@ -44,6 +49,18 @@ pub enum Attacked {
     Refused(Refusal),
 }
 
+// The kind on a square beside the board that was asked, or a refusal beside the empty board.
+pub struct PieceTold {
+    pub answer: PieceOn,
+    pub board: RetractableBoard,
+}
+
+// Whether a square is attacked, in the same way.
+pub struct AttackTold {
+    pub answer: Attacked,
+    pub board: RetractableBoard,
+}
+
 // The empty board, which stands beside every refusal. It has no king, so every entry refuses it.
 pub fn no_board() -> RetractableBoard
     ensures { λ r. ⌜ r ≡ noBoard ⌝ }
@@ -61,22 +78,6 @@ pub fn no_board() -> RetractableBoard
     }
 }
 
-// A board where nothing is refused, else the empty one.
-pub fn board_by(v: Verdict, b: RetractableBoard) -> Boarded
-    ensures { λ r. ⌜ r ≡ boardedBy v b ⌝ }
-{
-    match v {
-        Verdict::Accepted => Boarded {
-            verdict: Verdict::Accepted,
-            board: b,
-        },
-        Verdict::Refused(w) => Boarded {
-            verdict: Verdict::Refused(w),
-            board: no_board(),
-        },
-    }
-}
-
 impl RetractableBoard {
     // A board from raw men: refusals 1 to 6.
     pub fn new(
@@ -87,131 +88,113 @@ impl RetractableBoard {
         black: CastleRights,
         passant: EnPassantFlag,
     ) -> Boarded
-        ensures { λ r. ⌜ r ≡ newOf pieces colors turn white black passant ⌝ }
+        ensures { λ r. ⌜ Boards (rawTests pieces colors turn (rightsOf white black) passant) (workedOf pieces colors turn white black passant) r ⌝ }
     {
         let t = tables::between_table();
         inner::board_from(&t, pieces, colors, turn, white, black, passant)
     }
 
-    // A board that may have the retractor's king attacked, for replay: refusals 1 to 5.
-    pub fn earlier(
-        pieces: [u64; 6],
-        colors: [u64; 2],
-        turn: Color,
-        white: CastleRights,
-        black: CastleRights,
-        passant: EnPassantFlag,
-    ) -> Boarded
-        ensures { λ r. ⌜ r ≡ earlierOf pieces colors turn white black passant ⌝ }
-    {
-        let t = tables::between_table();
-        inner::earlier_from(&t, pieces, colors, turn, white, black, passant)
-    }
-
     // The gate: refusals 1 to 7 of any value.
-    pub fn judge(self) -> Verdict
-        ensures { λ v. ⌜ v ≡ gateOf self ⌝ }
-    {
-        let t = tables::between_table();
-        inner::gate(&t, self)
-    }
-
-    // What kind stands on a square.
-    pub fn piece_on(self, sq: u8) -> PieceOn
-        ensures { λ r. ⌜ r ≡ pieceOnOf self sq ⌝ }
-    {
-        let v = self.judge();
-        match v {
-            Verdict::Refused(w) => PieceOn::Refused(w),
-            Verdict::Accepted => {
-                if sq > 63 {
-                    return PieceOn::Refused(Refusal::Source);
-                }
-                let pieces = self.pieces;
-                let colors = self.colors;
-                kind_numbered(men::inner::man_at(pieces, colors, sq) / 2)
-            }
-        }
-    }
-
-    // Whether a man of a colour attacks a square.
-    pub fn is_attacked(self, sq: u8, color: Color) -> Attacked
-        ensures { λ r. ⌜ r ≡ attackedOf self sq color ⌝ }
+    pub fn judge(mut self) -> Boarded
+        ensures { λ r. ⌜ Boards (boardTests self) self r ⌝ }
     {
         let t = tables::between_table();
         let v = inner::gate(&t, self);
+        self = inner::kept(v, self);
+        Boarded {
+            verdict: v,
+            board: self,
+        }
+    }
+
+    // What kind stands on a square: refusals 1 to 7, then 9.
+    pub fn piece_on(mut self, sq: u8) -> PieceTold
+        ensures { λ r. ⌜ Tells (askTests self sq) (pieceSays (kindOn (menOn self sq))) self (pieceSays (r .answer)) (r .board) ⌝ }
+    {
+        let t = tables::between_table();
+        let v = inner::ask_gate(&t, self, sq);
+        self = inner::kept(v, self);
         match v {
-            Verdict::Refused(w) => Attacked::Refused(w),
+            Verdict::Refused(w) => PieceTold {
+                answer: PieceOn::Refused(w),
+                board: self,
+            },
             Verdict::Accepted => {
-                if sq > 63 {
-                    return Attacked::Refused(Refusal::Source);
-                }
                 let pieces = self.pieces;
                 let colors = self.colors;
-                told(attacks::inner::is_attacked(&t, pieces, colors, sq, color))
+                let answer = kind_numbered(men::inner::man_at(pieces, colors, sq) / 2);
+                PieceTold {
+                    answer,
+                    board: self,
+                }
             }
         }
     }
 
-    // The board with another en passant state.
-    pub fn set_en_passant(self, passant: EnPassantFlag) -> Boarded
-        ensures { λ r. ⌜ r ≡ setPassantOf self passant ⌝ }
+    // Whether a man of a colour attacks a square: refusals 1 to 7, then 9.
+    pub fn is_attacked(mut self, sq: u8, color: Color) -> AttackTold
+        ensures { λ r. ⌜ Tells (askTests self sq) (attackedSays (toldBy (attacked (menOn self) color sq))) self (attackedSays (r .answer)) (r .board) ⌝ }
     {
-        let v = self.judge_with(passant);
-        board_by(v, RetractableBoard { passant, ..self })
-    }
-
-    // Refusals 1 to 7, then 5 for another state.
-    fn judge_with(self, passant: EnPassantFlag) -> Verdict
-        ensures { λ v. ⌜ v ≡ passantVerdict self passant ⌝ }
-    {
-        let v = self.judge();
+        let t = tables::between_table();
+        let v = inner::ask_gate(&t, self, sq);
+        self = inner::kept(v, self);
         match v {
-            Verdict::Refused(w) => Verdict::Refused(w),
+            Verdict::Refused(w) => AttackTold {
+                answer: Attacked::Refused(w),
+                board: self,
+            },
             Verdict::Accepted => {
                 let pieces = self.pieces;
                 let colors = self.colors;
-                let turn = self.turn;
-                if accept::inner::tests::bad_passant(pieces, colors, turn, passant) {
-                    return Verdict::Refused(Refusal::Passant);
+                let answer = told(attacks::inner::is_attacked(&t, pieces, colors, sq, color));
+                AttackTold {
+                    answer,
+                    board: self,
                 }
-                Verdict::Accepted
             }
         }
+    }
+
+    // The board with another en passant state: refusals 1 to 7, then 5 for that state.
+    pub fn set_en_passant(mut self, passant: EnPassantFlag) -> Boarded
+        ensures { λ r. ⌜ Boards (stateTests self passant) (withPassant self passant) r ⌝ }
+    {
+        let t = tables::between_table();
+        let v = inner::state_gate(&t, self, passant);
+        self = RetractableBoard { passant, ..self };
+        inner::board_by(v, self)
     }
 
     // The board with an unknown state where it had none.
-    pub fn set_uncertain_ep(self) -> Boarded
-        ensures { λ r. ⌜ r ≡ uncertainOf self ⌝ }
-    {
-        let v = self.judge();
-        let state = self.passant;
-        let passant = uncertain_of(state);
-        board_by(v, RetractableBoard { passant, ..self })
-    }
-
-    // The board before a retraction: refusals 1 to 7, then 9 to 12. It may have the retractor's king attacked.
-    pub fn make_retraction_new(self, r: ChessRetraction) -> Boarded
-        ensures { λ z. ⌜ z ≡ unmadeBoard self r ⌝ }
+    pub fn set_uncertain_ep(mut self) -> Boarded
+        ensures { λ r. ⌜ Boards (boardTests self) (withPassant self (uncertain (self .passant))) r ⌝ }
     {
         let t = tables::between_table();
         let v = inner::gate(&t, self);
-        match v {
-            Verdict::Refused(w) => board_by(Verdict::Refused(w), no_board()),
-            Verdict::Accepted => inner::moving::unmade(&t, self, r),
-        }
+        let state = self.passant;
+        let passant = uncertain_of(state);
+        self = RetractableBoard { passant, ..self };
+        inner::board_by(v, self)
+    }
+
+    // The board before a retraction: refusals 1 to 7, then 9 to 12. It may have the retractor's king attacked.
+    pub fn make_retraction_new(mut self, r: ChessRetraction) -> Boarded
+        ensures { λ z. ⌜ Boards (boardTests self ++ unmakeTests (posOn self) r) (unmadeOn self r) z ⌝ }
+    {
+        let t = tables::between_table();
+        let z = inner::moving::unmade(&t, self, r);
+        self = z.board;
+        Boarded { board: self, ..z }
     }
 
     // The board after the move of a retraction: refusals 1 to 5 and 7, then 12. `kind` is that promoted to, 0 where none is.
-    pub fn replay(self, r: ChessRetraction, kind: u8) -> Boarded
-        ensures { λ z. ⌜ z ≡ replayedBoard self r kind ⌝ }
+    pub fn replay(mut self, r: ChessRetraction, kind: u8) -> Boarded
+        ensures { λ z. ⌜ Boards (replayTests self r kind) (replayedOn self r kind) z ⌝ }
     {
         let t = tables::between_table();
-        let v = inner::moving::replay_gate(&t, self);
-        match v {
-            Verdict::Refused(w) => board_by(Verdict::Refused(w), no_board()),
-            Verdict::Accepted => inner::moving::replayed(&t, self, r, kind),
-        }
+        let z = inner::moving::replayed(&t, self, r, kind);
+        self = z.board;
+        Boarded { board: self, ..z }
     }
 }
 

@@ -1,5 +1,12 @@
+pub mod Searched
+pub mod Toggling
+pub mod Ways
+pub mod Stages
+pub mod SameMoved
 pub mod Xor
 pub mod Rays
 pub mod SamePins
 pub mod Stood
 pub mod SameCheckers
+pub mod SameFound
+pub mod SameBoard

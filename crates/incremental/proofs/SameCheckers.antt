@@ -17,32 +17,30 @@ use Rattle.laws.specs.declared.Piece.{Piece}
 use Rattle.laws.specs.declared.Piece.the-variants.{Pawn, Knight, Rook, King}
 use Rattle.laws.specs.declared.ChessRetraction.{ChessRetraction}
 use Rattle.laws.specs.Men.{Man, man, Men, numbered, isOf, isEmpty, isKind, sameMan, bare}
-use Rattle.laws.specs.Attacks.{unionOf, attacks, attacked, attacksFrom, checks, slides, checkersOf, pinsOf}
+use Rattle.laws.specs.Attacks.{unionOf, attacks, attacked, attacksFrom, checks, slides, checkersOf}
 use Rattle.laws.specs.Positions.{Pos, retractor}
 use Rattle.laws.specs.Acceptance.{quiet, accepted}
 use Rattle.laws.specs.Moves.{Way}
 use Rattle.laws.specs.Unmaking.{wayBack, unmade}
-use Rattle.men.specs.Standing.{menOf}
 use Rattle.pins.specs.Kings.{TheKing, snipersOf}
-use Rattle.incremental.specs.Incremental.{xorTo, isPassant, asksKnights, asksPawns, knightsAt, pawnsAt, mid, sliderCheck, checkersAt, pinsAt, kingSquare, rustCheckers, rustPins}
+use Rattle.incremental.specs.Moved.{isPiece, isPassantUncapture}
+use Rattle.incremental.specs.Found.{asksKnights, asksPawns}
+use Rattle.incremental.proofs.Searched.{xorFrom, knightsAt, pawnsAt, mid, sliderCheck, nearAt, checkersAt}
 use Rattle.squares.proofs.Testing.{both, left, right, failed, bool-ext, agree, agree-eq}
 use Rattle.squares.proofs.Digits.{differs, has-xor, has-zero}
 use Rattle.squares.proofs.Comprehension.{is-upTo, has-setOf, upTo-lt}
 use Rattle.squares.proofs.Every.{all-at, all-cong, any-of, any-at, any-cong}
-use Rattle.squares.proofs.LeastMember.{least-or-64}
 use Rattle.geometry.proofs.Turned.{knight-sym, pawn-turned}
 use Rattle.tables.proofs.Paths.{clear-is}
 use Rattle.laws.proofs.Cases.{implies, given, every, everyMan, by-cases, by-colors, by-men}
 use Rattle.laws.proofs.Mans.{opp-opp, same, same-self, own-colour}
 use Rattle.laws.proofs.Facts.{accepts}
 use Rattle.laws.proofs.Retracting.{mover, canRetract, back}
-use Rattle.laws.proofs.Passes.{unmade-passes}
 use Rattle.attacks.proofs.Meets.{own, own-law}
-use Rattle.men.proofs.Having.{menOf-lt}
-use Rattle.pins.proofs.OneKing.{the-king, any-king, slide-law}
+use Rattle.pins.proofs.OneKing.{any-king, slide-law}
+use Rattle.incremental.proofs.Ways.{isPassant}
 use Rattle.incremental.proofs.Stood.{stood, other, no-king, no-knight, no-pawn, not-king, no-rook, no-man}
-use Rattle.incremental.proofs.SamePins.{pins-same}
-use Rattle.incremental.proofs.Xor.{xor-fits, has-xorTo}
+use Rattle.incremental.proofs.Xor.{xor-fits, has-xorFrom}
 
 -- sliders: a member of the sum is a sniper with a clear path
 module _ (m : Men) (c : Color) (q : ℕ) where
@@ -67,11 +65,12 @@ module _ (m : Men) (c : Color) (q : ℕ) where
       to : someSquare (λ a. f a and eqb k a) ≡ true → f k ≡ true
       to e = let w = any-at 64 (λ a. f a and eqb k a) e in subst (λ (j : ℕ). f j ≡ true) (sym (eqb-true k (w .0) (right _ _ (w .2)))) (left _ _ (w .2))
 
-  pub has-slider : (k : ℕ) → k < 64 → has (xorTo 64 (sliderCheck m c q)) k ≡ (has (snipersOf m (opp c) q) k and eqb (mid m q k) 0)
-  has-slider k l =
-      has-xorTo 64 (sliderCheck m c q) k (λ a b ha hb p r. sym (of a p) ∙ of b r)
-      ∙ any-cong 64 (λ a. has (sliderCheck m c q a) k) (λ a. (has (snipersOf m (opp c) q) a and eqb (mid m q a) 0) and eqb k a) (λ a la. has-check a k l)
-      ∙ at-own (λ a. has (snipersOf m (opp c) q) a and eqb (mid m q a) 0) k l
+  pub has-slider : (x k : ℕ) → k < 64 → has (xorFrom x 64 (sliderCheck m c q)) k ≡ differs (has x k) (has (snipersOf m (opp c) q) k and eqb (mid m q k) 0)
+  has-slider x k l =
+      has-xorFrom x 64 (sliderCheck m c q) k (λ a b ha hb p r. sym (of a p) ∙ of b r)
+      ∙ ap (differs (has x k))
+      (any-cong 64 (λ a. has (sliderCheck m c q a) k) (λ a. (has (snipersOf m (opp c) q) a and eqb (mid m q a) 0) and eqb k a) (λ a la. has-check a k l)
+      ∙ at-own (λ a. has (snipersOf m (opp c) q) a and eqb (mid m q a) 0) k l)
     where
       of : (a : ℕ) → has (sliderCheck m c q a) k ≡ true → k ≡ a
       of a p = eqb-true k a (right _ _ (sym (has-check a k l) ∙ p))
@@ -84,8 +83,8 @@ module _ (m : Men) (c : Color) (q : ℕ) where
       (λ k l. ap (λ (t : Bool). not (between a q k) or t) (ap not (has-setOf (λ j. not (isEmpty (m j))) k l) ∙ Bool·not-not (isEmpty (m k))))
 
 -- one square, by the man x that stands there: the tests n p d s k of the kinds, l that the path is clear, and what the Rust asks
-abbrev found : Color → Man → (askN askP n p d s l : Bool) → Bool
-found c x askN askP n p d s l =
+abbrev rustCheck : Color → Man → (askN askP n p d s l : Bool) → Bool
+rustCheck c x askN askP n p d s l =
     differs (differs (cond askN (n and sameMan x (man (opp c) Knight)) false) (cond askP (p and sameMan x (man (opp c) Pawn)) false))
     ((isOf (opp c) x and own x false false d s false) and l)
 
@@ -97,7 +96,7 @@ abbrev spared : Color → Man → (askN askP n p : Bool) → Bool
 spared c x askN askP n p = (not (sameMan x (man (opp c) Knight)) or askN or not n) and (not (sameMan x (man (opp c) Pawn)) or askP or not p)
 
 abbrev checkLaw : Color → Man → (askN askP n p d s l k : Bool) → Bool
-checkLaw c x askN askP n p d s l k = implies (spared c x askN askP n p) (agree (found c x askN askP n p d s l) (true-check c x n p d s l k))
+checkLaw c x askN askP n p d s l k = implies (spared c x askN askP n p) (agree (rustCheck c x askN askP n p d s l) (true-check c x n p d s l k))
 
 check-law : (c : Color) (x : Man) (askN askP n p d s l k : Bool) → checkLaw c x askN askP n p d s l k ≡ true
 unfolding _and_ _or_
@@ -123,7 +122,9 @@ calm m d k a q h la lq eq ea at =
     (any-of 64 (attacksFrom m d q) a la
     (both (ap (isOf d) ea ∙ own-colour d k) (ap (λ (x : Man). attacks m x a q) ea ∙ at))))
 
-module _ (p : Pos) (r : ChessRetraction) (ok : accepted p ≡ true) (can : canRetract p r ≡ true) (q : ℕ) (the : TheKing (unmade p r .men) (retractor p) q) where
+-- k is the kind on the source
+module _ (p : Pos) (r : ChessRetraction) (ok : accepted p ≡ true) (can : canRetract p r ≡ true) (k : Piece) (on-source : p .men (r .source) ≡ man (retractor p) k)
+    (by-passant : isPassantUncapture k r ≡ isPassant (wayBack (retractor p) p r)) (q : ℕ) (the : TheKing (unmade p r .men) (retractor p) q) where
   abbrev c : Color
   c = retractor p
 
@@ -158,23 +159,27 @@ module _ (p : Pos) (r : ChessRetraction) (ok : accepted p ≡ true) (can : canRe
       calm (p .men) (opp c) k a q (subst (λ (d : Color). quiet (p .men) d ≡ true) (sym of-turn) (accepts p ok .calm)) la (the .here)
       (king-stood ek ∙ ap (λ (d : Color). man d King) (sym (opp-opp c))) ea at
 
-  spares : (a : ℕ) → a < 64 → spared c (m a) (asksKnights p r) (asksPawns p r) (knightStep a q) (pawnTakes (opp c) a q) ≡ true
+  no-king-there : isPiece King k ≡ false → isKind King (p .men (r .source)) ≡ false
+  no-king-there e = ap (isKind King) on-source ∙ e
+
+  spares : (a : ℕ) → a < 64 → spared c (m a) (asksKnights k r) (asksPawns k r) (knightStep a q) (pawnTakes (opp c) a q) ≡ true
+  unfolding asksKnights asksPawns
   spares a la = both (or-not _ _ _ knights) (or-not _ _ _ pawns)
     where
-      knights : sameMan (m a) (man (opp c) Knight) ≡ true → asksKnights p r ≡ false → knightStep a q ≡ true → ⊥
+      knights : sameMan (m a) (man (opp c) Knight) ≡ true → asksKnights k r ≡ false → knightStep a q ≡ true → ⊥
       knights e f at =
-          let n = neither (isKind King (p .men (r .source))) (eqb (r .uncaptured) 2) f in
-          unharmed Knight a la (n .0) (man-stood Knight a (no-knight (opp c) (r .uncaptured) (n .1)) (λ h. unlike (opp c)) (same _ _ e)) at
+          let n = neither (isPiece King k) (eqb (r .uncaptured) 2) f in
+          unharmed Knight a la (no-king-there (n .0)) (man-stood Knight a (no-knight (opp c) (r .uncaptured) (n .1)) (λ h. unlike (opp c)) (same _ _ e)) at
         where
           unlike : (c : Color) → sameMan (man c Pawn) (man c Knight) ≡ false
           unlike White = refl
           unlike Black = refl
 
-      pawns : sameMan (m a) (man (opp c) Pawn) ≡ true → asksPawns p r ≡ false → pawnTakes (opp c) a q ≡ true → ⊥
+      pawns : sameMan (m a) (man (opp c) Pawn) ≡ true → asksPawns k r ≡ false → pawnTakes (opp c) a q ≡ true → ⊥
       pawns e f at =
-          let n = neither (isKind King (p .men (r .source)) or eqb (r .uncaptured) 1) (isPassant w) f in
-          let k = neither (isKind King (p .men (r .source))) (eqb (r .uncaptured) 1) (n .0) in
-          unharmed Pawn a la (k .0) (man-stood Pawn a (no-pawn (opp c) (r .uncaptured) (k .1)) (λ h. absurd (true≢false (sym h ∙ n .1))) (same _ _ e)) at
+          let n = neither (isPiece King k or eqb (r .uncaptured) 1) (isPassantUncapture k r) f in
+          let l = neither (isPiece King k) (eqb (r .uncaptured) 1) (n .0) in
+          unharmed Pawn a la (no-king-there (l .0)) (man-stood Pawn a (no-pawn (opp c) (r .uncaptured) (l .1)) (λ h. absurd (true≢false (sym h ∙ sym by-passant ∙ n .1))) (same _ _ e)) at
 
   -- one square
   asked : (b : Bool) (f : ℕ → Bool) (a : ℕ) (t : Bool) → a < 64 → f a ≡ t → has (cond b (setOf f) 0) a ≡ cond b t false
@@ -182,19 +187,18 @@ module _ (p : Pos) (r : ChessRetraction) (ok : accepted p ≡ true) (can : canRe
   asked false f a t l e = has-zero a
 
   rust-at : (a : ℕ) → a < 64
-      → has (checkersAt p r q) a ≡ found c (m a) (asksKnights p r) (asksPawns p r) (knightStep a q) (pawnTakes (opp c) a q) (diagonal a q) (straight a q) (clear (bare m) a q)
-  unfolding checkersAt snipersOf
+      → has (checkersAt m c (asksKnights k r) (asksPawns k r) q) a
+      ≡ rustCheck c (m a) (asksKnights k r) (asksPawns k r) (knightStep a q) (pawnTakes (opp c) a q) (diagonal a q) (straight a q) (clear (bare m) a q)
+  unfolding checkersAt nearAt snipersOf
   rust-at a l =
-      has-xor (bitXor N P) S a ∙ ap₂ differs (has-xor N P a ∙ ap₂ differs (asked (asksKnights p r) (knightsAt m c q) a _ l kn) (asked (asksPawns p r) (pawnsAt m c q) a _ l pw)) sl
+      has-slider m c q (bitXor N P) a l
+      ∙ ap₂ differs (has-xor N P a ∙ ap₂ differs (asked (asksKnights k r) (knightsAt m c q) a _ l kn) (asked (asksPawns k r) (pawnsAt m c q) a _ l pw)) sl
     where
       N : ℕ
-      N = cond (asksKnights p r) (setOf (knightsAt m c q)) 0
+      N = cond (asksKnights k r) (setOf (knightsAt m c q)) 0
 
       P : ℕ
-      P = cond (asksPawns p r) (setOf (pawnsAt m c q)) 0
-
-      S : ℕ
-      S = xorTo 64 (sliderCheck m c q)
+      P = cond (asksPawns k r) (setOf (pawnsAt m c q)) 0
 
       kn : knightsAt m c q a ≡ (knightStep a q and sameMan (m a) (man (opp c) Knight))
       kn = ap (λ (t : Bool). t and sameMan (m a) (man (opp c) Knight)) (knight-sym q a (the .here) l)
@@ -202,8 +206,8 @@ module _ (p : Pos) (r : ChessRetraction) (ok : accepted p ≡ true) (can : canRe
       pw : pawnsAt m c q a ≡ (pawnTakes (opp c) a q and sameMan (m a) (man (opp c) Pawn))
       pw = ap (λ (t : Bool). t and sameMan (m a) (man (opp c) Pawn)) (pawn-turned c q a (the .here) l)
 
-      sl : has S a ≡ ((isOf (opp c) (m a) and own (m a) false false (diagonal a q) (straight a q) false) and clear (bare m) a q)
-      sl = has-slider m c q a l ∙ ap₂ _and_ (has-setOf (λ j. isOf (opp c) (m j) and slides (m j) j q) a l ∙ sym (slide-law (opp c) (m a) a q)) (clear-mid m c q a)
+      sl : (has (snipersOf m (opp c) q) a and eqb (mid m q a) 0) ≡ ((isOf (opp c) (m a) and own (m a) false false (diagonal a q) (straight a q) false) and clear (bare m) a q)
+      sl = ap₂ _and_ (has-setOf (λ j. isOf (opp c) (m j) and slides (m j) j q) a l ∙ sym (slide-law (opp c) (m a) a q)) (clear-mid m c q a)
 
   within : (i k t u : Bool) → (i and t) ≡ (i and u) → ((i and k) and t) ≡ ((i and k) and u)
   unfolding _and_
@@ -217,33 +221,16 @@ module _ (p : Pos) (r : ChessRetraction) (ok : accepted p ≡ true) (can : canRe
       within (isOf (opp c) (m a)) (not (sameMan (m a) (man (opp c) King))) _ _ (own-law m (opp c) (m a) a q)
       ∙ ap (λ (t : Bool). (isOf (opp c) (m a) and not (sameMan (m a) (man (opp c) King))) and t) (sym (any-king m c q (attacks m (m a) a) the))
 
-  with-king : checkersAt p r q ≡ checkersOf (unmade p r .men) (retractor p)
-  unfolding checkersAt
-  with-king = is-upTo 64 (checkersAt p r q) (checks m c) fits at
+  pub checkers-same : checkersAt m c (asksKnights k r) (asksPawns k r) q ≡ checkersOf (unmade p r .men) (retractor p)
+  unfolding checkersAt nearAt
+  checkers-same = is-upTo 64 (checkersAt m c (asksKnights k r) (asksPawns k r) q) (checks m c) fits at
     where
       none-lt : (b : Bool) (f : ℕ → Bool) → cond b (setOf f) 0 < 2 ^ 64
       none-lt true f = upTo-lt 64 f
       none-lt false f = pow-pos 64
 
-      fits : checkersAt p r q < 2 ^ 64
-      fits = xor-lt 64 _ _ (xor-lt 64 _ _ (none-lt (asksKnights p r) (knightsAt m c q)) (none-lt (asksPawns p r) (pawnsAt m c q))) (xor-fits 64 (sliderCheck m c q) (check-lt m c q))
+      fits : checkersAt m c (asksKnights k r) (asksPawns k r) q < 2 ^ 64
+      fits = xor-fits _ 64 (sliderCheck m c q) (xor-lt 64 _ _ (none-lt (asksKnights k r) (knightsAt m c q)) (none-lt (asksPawns k r) (pawnsAt m c q))) (check-lt m c q)
 
-      at : (a : ℕ) → a < 64 → has (checkersAt p r q) a ≡ checks m c a
-      at a l = rust-at a l ∙ agree-eq _ _ (given (spared c (m a) (asksKnights p r) (asksPawns p r) (knightStep a q) (pawnTakes (opp c) a q)) _ (check-law c (m a) (asksKnights p r) (asksPawns p r) (knightStep a q) (pawnTakes (opp c) a q) (diagonal a q) (straight a q) (clear (bare m) a q) (kingStep a q)) (spares a l)) ∙ laws-at a l
-
--- 2 passes on the un-made board, so the lowest king's square is that of the one king
-king-there : (p : Pos) (r : ChessRetraction) → accepted p ≡ true → canRetract p r ≡ true → TheKing (unmade p r .men) (retractor p) (kingSquare p r)
-king-there p r ok can = the-king m c (kingSquare p r) (unmade-passes p r ok can .kings) (least-or-64 (menOf m c King) (menOf-lt m c King))
-  where
-    m : Men
-    m = unmade p r .men
-
-    c : Color
-    c = retractor p
-
-pub checkers-same : (p : Pos) (r : ChessRetraction) → accepted p ≡ true → canRetract p r ≡ true → rustCheckers p r ≡ checkersOf (unmade p r .men) (retractor p)
-checkers-same p r ok can = with-king p r ok can (kingSquare p r) (king-there p r ok can)
-
-pub pins-same-back : (p : Pos) (r : ChessRetraction) → accepted p ≡ true → canRetract p r ≡ true → rustPins p r ≡ pinsOf (unmade p r .men) (retractor p)
-unfolding pinsAt
-pins-same-back p r ok can = pins-same (unmade p r .men) (retractor p) (kingSquare p r) (king-there p r ok can)
+      at : (a : ℕ) → a < 64 → has (checkersAt m c (asksKnights k r) (asksPawns k r) q) a ≡ checks m c a
+      at a l = rust-at a l ∙ agree-eq _ _ (given (spared c (m a) (asksKnights k r) (asksPawns k r) (knightStep a q) (pawnTakes (opp c) a q)) _ (check-law c (m a) (asksKnights k r) (asksPawns k r) (knightStep a q) (pawnTakes (opp c) a q) (diagonal a q) (straight a q) (clear (bare m) a q) (kingStep a q)) (spares a l)) ∙ laws-at a l

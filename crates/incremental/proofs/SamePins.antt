@@ -17,7 +17,7 @@ use Rattle.geometry.specs.Lines.{between, betweenOf}
 use Rattle.laws.specs.Men.{Man, empty, man, Men, isOf, isEmpty}
 use Rattle.laws.specs.Attacks.{unionOf, slides, alone, pinsOf}
 use Rattle.pins.specs.Kings.{TheKing, snipersOf}
-use Rattle.incremental.specs.Incremental.{xorTo, mid, sliderPin}
+use Rattle.incremental.proofs.Searched.{xorFrom, mid, sliderPin, pinsAt}
 use Rattle.squares.proofs.Testing.{left, right, either, failed}
 use Rattle.squares.proofs.Digits.{has-zero}
 use Rattle.squares.proofs.Comprehension.{is-upTo, has-setOf}
@@ -110,10 +110,10 @@ module _ (m : Men) (c : Color) (q : ℕ) where
       bk : between b q k ≡ true
       bk = right _ _ (left _ _ (right _ _ r))
 
-  pub pins-same : TheKing m c q → xorTo 64 (sliderPin m c q) ≡ pinsOf m c
-  unfolding united
+  pub pins-same : TheKing m c q → pinsAt m c q ≡ pinsOf m c
+  unfolding united pinsAt
   pins-same king =
-      is-upTo 64 (xorTo 64 (sliderPin m c q)) (united (λ a. alone m a q) (snipersOf m (opp c) q)) (xor-fits 64 (sliderPin m c q) pin-lt)
+      is-upTo 64 (xorFrom 0 64 (sliderPin m c q)) (united (λ a. alone m a q) (snipersOf m (opp c) q)) (xor-fits 0 64 (sliderPin m c q) (pow-pos 64) pin-lt)
       (λ k l. has-xorTo 64 (sliderPin m c q) k (λ a b ha hb p r. one-sniper k a b ha hb (sym (has-pin a k l) ∙ p) (sym (has-pin b k l) ∙ r))
       ∙ any-cong 64 (λ a. has (sliderPin m c q a) k) (λ a. has (snipersOf m (opp c) q) a and alone m a q k) (λ a la. has-pin a k l))
       ∙ pins-is m c q king

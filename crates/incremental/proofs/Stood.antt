@@ -12,7 +12,7 @@ use Rattle.laws.specs.Men.{Man, empty, man, Men, numbered, isOf, isKind, sameMa
 use Rattle.laws.specs.Positions.{corner, rookTo}
 use Rattle.laws.specs.Moves.{Way, plain, passant, castling}
 use Rattle.laws.specs.Unmaking.{before, leaving}
-use Rattle.incremental.specs.Incremental.{isPassant}
+use Rattle.incremental.proofs.Ways.{isPassant}
 use Rattle.laws.proofs.Mans.{same, same-self, one-colour, own-colour}
 
 unput : (k : ℕ) (x : Man) (m : Men) (j : ℕ) (z : Man) → sameMan x z ≡ false → put k x m j ≡ z → m j ≡ z

@@ -1,1 +1,2 @@
-pub mod Incremental
+pub mod Moved
+pub mod Found

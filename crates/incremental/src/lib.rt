@@ -1,2 +1,1 @@
-// How the Rust's `make_retraction_new` finds checkers and pins, as a definition (specs/), and that it finds the Laws' (proofs/). No code
-// here: the board works them out afresh.
+// The Rust's `make_retraction_new`, whole, as a definition on sets (specs/), and that it gives the Laws' un-made board (proofs/). No code here.

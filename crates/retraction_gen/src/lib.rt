@@ -150,7 +150,8 @@ impl RetractionGen {
 pub fn uncaptured_candidates(b: RetractableBoard) -> Masks
     ensures { λ r. ⌜ Masked (boardTests b) (masksOn b) r ⌝ }
 {
-    let v = b.judge();
+    let t = tables::between_table();
+    let v = board::inner::gate(&t, b);
     match v {
         Verdict::Refused(why) => Masks {
             verdict: Verdict::Refused(why),

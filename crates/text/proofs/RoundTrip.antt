@@ -63,15 +63,11 @@ number-six p k c ρ st e =
     (agree-eq _ _ (by-cases 6 (λ a b d e f g. agree (eqb (verdictNumber (andThen (unless a men (unless b kings (firstOf (not d) (not e) (not f)))) (unless g check Accepted))) 14) false) refl
     (menOk p k) (kingsOk (menAt p k)) (pawnsOk (menAt p k)) (rightsOk (menAt p k) ρ) (stateOk (menAt p k) c st) (quiet (menAt p k) c))) (ap verdictNumber e)
 
-boarded-verdict : (v : Verdict) (b : RetractableBoard) → boardedBy v b .verdict ≡ v
-boarded-verdict Accepted b = refl
-boarded-verdict (Refused r) b = refl
-
 -- "14 TEXT: the text hasn't the form under Text": exactly then
 pub text-refused : (t : List ℕ) (r : Boarded) → Reads t r → r .verdict ≡ Refused Text → (f : Fields) → Says f t → ⊥
 text-refused t r (said g s e) h f u =
     number-six (g .pieces) (g .colors) (g .turn) (rightsOf (g .white) (g .black)) (g .passant)
-    (sym (boarded-verdict (judgedOf (g .pieces) (g .colors) (g .turn) (rightsOf (g .white) (g .black)) (g .passant)) _) ∙ sym (ap (λ (x : Boarded). x .verdict) e) ∙ h)
+    (sym (ap (λ (x : Boarded). x .verdict) e) ∙ h)
 text-refused t r (unsaid n e) h f u = n f u
 
 pub refused-text : (t : List ℕ) (r : Boarded) → Reads t r → ((f : Fields) → Says f t → ⊥) → r .verdict ≡ Refused Text
@@ -148,7 +144,7 @@ never r e = let z : _≡_ {A = ℕ} 0 1 = cc in omega arith
 pub read-accepted : (t : List ℕ) (r : Boarded) → Reads t r → r .verdict ≡ Accepted → (gateOf (r .board) ≡ Accepted) × (textOn (r .board) ≡ t)
 read-accepted t r (said f s e) h =
     let j : judgedOf (f .pieces) (f .colors) (f .turn) (rightsOf (f .white) (f .black)) (f .passant) ≡ Accepted =
-    sym (boarded-verdict (judgedOf (f .pieces) (f .colors) (f .turn) (rightsOf (f .white) (f .black)) (f .passant)) _) ∙ sym (ap (λ (x : Boarded). x .verdict) e) ∙ h in
+    sym (ap (λ (x : Boarded). x .verdict) e) ∙ h in
     let w : r .board ≡ workedOf (f .pieces) (f .colors) (f .turn) (f .white) (f .black) (f .passant) =
     ap (λ (x : Boarded). x .board) (e ∙ ap (λ (v : Verdict). boardedBy v (workedOf (f .pieces) (f .colors) (f .turn) (f .white) (f .black) (f .passant))) j) in
     (ap gateOf w ∙ gate-worked f j, ap textOn w ∙ s .text)

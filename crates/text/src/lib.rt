@@ -60,7 +60,7 @@ pub fn read(text: &[u8]) -> Boarded
     match form {
         Verdict::OutOfForm => {
             let v = accept::Verdict::Refused(Refusal::Text);
-            board::board_by(v, board::no_board())
+            board::inner::board_by(v, board::no_board())
         }
         Verdict::InForm => {
             let pieces = raw.pieces;
@@ -78,7 +78,8 @@ pub fn read(text: &[u8]) -> Boarded
 pub fn print(b: RetractableBoard, out: &mut [u8]) -> Printed
     ensures { λ r. ⌜ (r ≡ printedOf b (now (out .entry))) × (now (out .exit) ≡ leftOf b (now (out .entry))) ⌝ }
 {
-    let v = b.judge();
+    let t = tables::between_table();
+    let v = board::inner::gate(&t, b);
     match v {
         accept::Verdict::Refused(r) => Printed::Refused(r),
         accept::Verdict::Accepted => {

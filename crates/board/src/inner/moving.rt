@@ -1,4 +1,4 @@
-// Un-make and replay of a board that its gate let pass, over a lent table of squares between.
+// Un-make and replay of a board, over a lent table of squares between.
 use super::super::Boarded;
 use super::super::RetractableBoard;
 use accept::Verdict;
@@ -7,11 +7,7 @@ use placing::Position;
 use unmake::Unmade;
 ghost use mathlib.Core.Path.{_≡_};
 ghost use Rattle.geometry.specs.Lines.{IsBetween};
-ghost use Rattle.accept.specs.declared.Verdict.the-variants.{Accepted};
-ghost use Rattle.unmake.specs.Retracted.{unmadeTo};
-ghost use Rattle.replay.specs.Replayed.{replayTo};
-ghost use Rattle.board.specs.Gate.{posOn, gateOf};
-ghost use Rattle.board.specs.Moving.{placedOn, boardedOf, replayGate, Sound};
+ghost use Rattle.board.specs.Moving.{placedOn, boardedOf, unmadeBoard, replayGate, replayedBoard, Sound};
 
 // A board's fields without the worked-out ones.
 pub fn placed(b: RetractableBoard) -> Position
@@ -64,22 +60,34 @@ pub fn replay_gate(t: &[u64; 4096], b: RetractableBoard) -> Verdict
     super::stale_after(t, v, pieces, colors, turn, b.combined, b.checkers, b.pinned)
 }
 
-// Un-make: refusals 9 to 12, or the earlier board.
+// Un-make: refusals 1 to 7 and 9 to 12, or the earlier board.
 pub fn unmade(t: &[u64; 4096], b: RetractableBoard, r: ChessRetraction) -> Boarded
-    requires { ⌜ IsBetween (now t) × (gateOf b ≡ Accepted) ⌝ }
-    ensures { λ z. ⌜ z ≡ boardedOf (unmadeTo (posOn b) r) ⌝ }
+    requires { ⌜ IsBetween (now t) ⌝ }
+    ensures { λ z. ⌜ z ≡ unmadeBoard b r ⌝ }
 {
-    let p = placed(b);
-    let u = unmake::inner::unmake(t, p, r);
-    boarded(t, u)
+    let v = super::gate(t, b);
+    match v {
+        Verdict::Refused(w) => super::board_by(Verdict::Refused(w), super::super::no_board()),
+        Verdict::Accepted => {
+            let p = placed(b);
+            let u = unmake::inner::unmake(t, p, r);
+            boarded(t, u)
+        }
+    }
 }
 
-// Replay: refusal 12, or the board after the move.
+// Replay: refusals 1 to 5, 7 and 12, or the board after the move.
 pub fn replayed(t: &[u64; 4096], b: RetractableBoard, r: ChessRetraction, kind: u8) -> Boarded
-    requires { ⌜ IsBetween (now t) × (replayGate b ≡ Accepted) ⌝ }
-    ensures { λ z. ⌜ z ≡ boardedOf (replayTo (posOn b) r kind) ⌝ }
+    requires { ⌜ IsBetween (now t) ⌝ }
+    ensures { λ z. ⌜ z ≡ replayedBoard b r kind ⌝ }
 {
-    let p = placed(b);
-    let u = replay::inner::replay(t, p, r, kind);
-    boarded(t, u)
+    let v = replay_gate(t, b);
+    match v {
+        Verdict::Refused(w) => super::board_by(Verdict::Refused(w), super::super::no_board()),
+        Verdict::Accepted => {
+            let p = placed(b);
+            let u = replay::inner::replay(t, p, r, kind);
+            boarded(t, u)
+        }
+    }
 }

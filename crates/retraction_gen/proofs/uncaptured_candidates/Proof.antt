@@ -6,8 +6,11 @@ use Rattle.retraction_gen.proofs.Gated.{masked-refused, masked-on}
 use Rattle.retraction_gen.proofs.uncaptured_candidates.Statement.{statement}
 use Rattle.retraction_gen.proofs.uncaptured_candidates.Tie as tie
 
-judge-requires : tie.Need-judge-requires
-judge-requires c κs = search needs
+between-table-requires : tie.Need-between-table-requires
+between-table-requires c κs = search needs
+
+gate-requires : tie.Need-gate-requires
+gate-requires c κs = search needs
 
 enum-known-v : tie.Need-enum-known-v
 enum-known-v c = search needs
@@ -19,13 +22,13 @@ candidates-requires : tie.Need-candidates-requires
 candidates-requires c κs = search needs
 
 returns : tie.Need-returns
-returns c = masked-refused _ _ (c .before .before .before .judge .ensures) _ _ (c .before .v .given .1) (refl, refl)
+returns c = masked-refused _ _ (c .before .before .before .gate .ensures) _ _ (c .before .v .given .1) (refl, refl)
 
 returns-2 : tie.Need-returns-2
 unfolding masksOn
-returns-2 c = masked-on _ _ (c .before .before .before .before .before .judge .ensures) _ (c .before .before .before .enum-told .given .1) (refl, c .candidates .ensures)
+returns-2 c = masked-on _ _ (c .before .before .before .before .before .gate .ensures) _ (c .before .before .before .enum-told .given .1) (refl, c .candidates .ensures)
 
 pub uncaptured-candidates-spec : {M : Type 1} → statement M
 uncaptured-candidates-spec =
     tie.close
-    (tie.spec judge-requires enum-known-v enum-told candidates-requires returns returns-2)
+    (tie.spec between-table-requires gate-requires enum-known-v enum-told candidates-requires returns returns-2)

@@ -4,8 +4,11 @@ use Rattle.text.proofs.RoundTrip.{not-printed, printed-so}
 use Rattle.text.proofs.print.Statement.{statement}
 use Rattle.text.proofs.print.Tie as tie
 
-judge-requires : tie.Need-judge-requires
-judge-requires c κs = search needs
+between-table-requires : tie.Need-between-table-requires
+between-table-requires c κs = search needs
+
+gate-requires : tie.Need-gate-requires
+gate-requires c κs = search needs
 
 enum-known-v : tie.Need-enum-known-v
 enum-known-v c = search needs
@@ -23,19 +26,20 @@ told-requires : tie.Need-told-requires
 told-requires c κs = search needs
 
 returns : tie.Need-returns
-returns c = not-printed _ _ _ _ (c .before .before .before .judge .ensures) (c .before .v .given .1)
+returns c = not-printed _ _ _ _ (c .before .before .before .gate .ensures) (c .before .v .given .1)
 
 same-length : tie.Need-same-length
 same-length c = search needs
 
 returns-2 : tie.Need-returns-2
-returns-2 c = printed-so _ _ _ _ _ _ _ (c .before .before .before .before .before .before .before .before .before .before .judge .ensures) (c .before .before .before .before .before .before .before .before .enum-told .given .1) (c .before .before .before .before .before .line-of .ensures .0 .text) (c .before .before .before .copy .ensures .0) (c .before .before .before .copy .ensures .1) (c .told .ensures)
+returns-2 c = printed-so _ _ _ _ _ _ _ (c .before .before .before .before .before .before .before .before .before .before .gate .ensures) (c .before .before .before .before .before .before .before .before .enum-told .given .1) (c .before .before .before .before .before .line-of .ensures .0 .text) (c .before .before .before .copy .ensures .0) (c .before .before .before .copy .ensures .1) (c .told .ensures)
 
 pub print-spec : {M : Type 1} → statement M
 print-spec =
     tie.close
     (tie.spec
-    judge-requires
+    between-table-requires
+    gate-requires
     enum-known-v
     enum-told
     line-of-requires

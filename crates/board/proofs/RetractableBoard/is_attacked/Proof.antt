@@ -1,21 +1,32 @@
 -- `board::RetractableBoard::is_attacked` meets its contract.
-use mathlib.Core.Path.{refl, _∙_, sym, _≡_}
+use mathlib.Core.Path.{_≡_, _∙_, ap, sym, subst}
 use native.Mathlib.Omega.{arith}
 use lib.ListN.{getD, length}
-use borrow.Author.Tests.{lt-ltb, le-ltb}
-use borrow.Author.Needs.{needs}
-use Rattle.laws.specs.Positions.{rightsOf}
-use mir.Val.{Fits}
 use mir.Syntax.{w64}
-use Rattle.board.proofs.Passing.{judged-clean, gate-judged}
+use mir.Val.{Fits}
+use borrow.Author.Needs.{needs}
+use borrow.Author.Tests.{ltb-true}
+use Rattle.laws.specs.Attacks.{attacked}
+use Rattle.laws.specs.Boards.{Clean}
+use Rattle.accept.specs.declared.Verdict.{Verdict}
+use Rattle.accept.specs.Verdicts.{verdictNumber}
+use Rattle.board.specs.declared.RetractableBoard.{RetractableBoard}
+use Rattle.board.specs.Gate.{menOn}
+use Rattle.board.specs.Said.{attackedSays}
+use Rattle.board.specs.Answers.{askTests, toldBy}
+use Rattle.board.proofs.Saying.{tells-by}
+use Rattle.board.proofs.Passing.{ask-number, ask-accepted, gate-clean}
 use Rattle.board.proofs.RetractableBoard.is_attacked.Statement.{statement}
 use Rattle.board.proofs.RetractableBoard.is_attacked.Tie as tie
 
 between-table-requires : tie.Need-between-table-requires
 between-table-requires c κs = search needs
 
-gate-requires : tie.Need-gate-requires
-gate-requires c κs = search needs
+ask-gate-requires : tie.Need-ask-gate-requires
+ask-gate-requires c κs = search needs
+
+kept-requires : tie.Need-kept-requires
+kept-requires c κs = search needs
 
 enum-known-v : tie.Need-enum-known-v
 enum-known-v c = search needs
@@ -23,31 +34,28 @@ enum-known-v c = search needs
 enum-told : tie.Need-enum-told
 enum-told c = search needs
 
-returns : tie.Need-returns
-returns c = rw (sym (c .before .before .before .gate .ensures) ∙ c .before .enum-told .given .1, le-ltb (c .before .before .before .before .before .before .args .sq) 64 (omega arith))
-
 is-attacked-requires : tie.Need-is-attacked-requires
-is-attacked-requires c κs = let b = c .before .before .before .before .before .before .before .before .before .args .self in (c .before .before .before .before .before .before .before .before .between-table .ensures, judged-clean (b .pieces) (b .colors) (b .turn) (rightsOf (b .white) (b .black)) (b .passant) (let e : length (b .pieces) ≡ 6 = search needs in e) (let e : length (b .colors) ≡ 2 = search needs in e) (λ i. let f : Fits w64 (getD (b .pieces) i 0) = search needs in f .fits) (λ i. let f : Fits w64 (getD (b .colors) i 0) = search needs in f .fits) (gate-judged b (sym (c .before .before .before .before .before .before .gate .ensures) ∙ c .before .before .before .before .enum-told .given .1)) .0, omega arith)
+is-attacked-requires c κs = let b = c .before .before .before .before .before .before .before .before .before .args .self in let sq = c .before .before .before .before .before .before .before .before .before .args .sq in let e : c .before .before .before .before .before .kept .result ≡ b = c .before .before .before .before .before .kept .ensures ∙ rw (c .before .before .before .enum-told .given .1) in let k = ask-accepted b sq (sym (c .before .before .before .before .before .before .ask-gate .ensures) ∙ c .before .before .before .enum-told .given .1) in (c .before .before .before .before .before .before .before .before .between-table .ensures, subst (λ (x : RetractableBoard). Clean (x .pieces) (x .colors)) (sym e) (gate-clean b (let e : length (b .pieces) ≡ 6 = search needs in e) (let e : length (b .colors) ≡ 2 = search needs in e) (λ i. let f : Fits w64 (getD (b .pieces) i 0) = search needs in f .fits) (λ i. let f : Fits w64 (getD (b .colors) i 0) = search needs in f .fits) (k .0) .0), omega (arith, ltb-true sq 64 (k .1)))
 
 told-requires : tie.Need-told-requires
 told-requires c κs = search needs
 
-returns-2 : tie.Need-returns-2
-returns-2 c = rw (sym (c .before .before .before .gate .ensures) ∙ c .before .v .given .1)
+returns : tie.Need-returns
+returns c = let a = c .before .before .before .before .before .before .before .args in let b = a .self in tells-by (c .before .before .before .before .ask-gate .result) (askTests b (a .sq)) b (ap (λ (v : Verdict). verdictNumber v) (c .before .before .before .before .ask-gate .ensures) ∙ ask-number b (a .sq)) (attackedSays (toldBy (attacked (menOn b) (a .color) (a .sq)))) (rw (c .before .v .given .1)) (c .before .before .before .kept .ensures)
 
-returns-3 : tie.Need-returns-3
-returns-3 c = c .told .ensures ∙ rw (c .before .is-attacked .ensures, sym (c .before .before .before .before .before .before .before .before .gate .ensures) ∙ c .before .before .before .before .before .before .enum-told .given .1, lt-ltb (c .before .before .before .before .before .before .before .before .before .before .before .args .sq) 64 (omega arith)) refl
+returns-2 : tie.Need-returns-2
+returns-2 c = let a = c .before .before .before .before .before .before .before .before .before .before .before .args in let b = a .self in let e : c .before .before .before .before .before .before .before .kept .result ≡ b = c .before .before .before .before .before .before .before .kept .ensures ∙ rw (c .before .before .before .before .before .enum-told .given .1) in tells-by (c .before .before .before .before .before .before .before .before .ask-gate .result) (askTests b (a .sq)) b (ap (λ (v : Verdict). verdictNumber v) (c .before .before .before .before .before .before .before .before .ask-gate .ensures) ∙ ask-number b (a .sq)) (attackedSays (toldBy (attacked (menOn b) (a .color) (a .sq)))) (rw (c .before .before .before .before .before .enum-told .given .1, c .told .ensures, c .before .is-attacked .ensures) (ap (λ (x : RetractableBoard). attackedSays (toldBy (attacked (menOn x) (a .color) (a .sq)))) e)) (c .before .before .before .before .before .before .before .kept .ensures)
 
 pub is-attacked-spec : {M : Type 1} → statement M
 is-attacked-spec =
     tie.close
     (tie.spec
     between-table-requires
-    gate-requires
+    ask-gate-requires
+    kept-requires
     enum-known-v
     enum-told
-    returns
     is-attacked-requires
     told-requires
-    returns-2
-    returns-3)
+    returns
+    returns-2)

@@ -1,15 +1,27 @@
 -- `board::RetractableBoard::piece_on` meets its contract.
-use mathlib.Core.Path.{_∙_, sym}
-use native.Mathlib.Omega.{arith}
-use borrow.Author.Tests.{lt-ltb, le-ltb}
+use mathlib.Core.Path.{_≡_, _∙_, ap}
+use Prim.Native.Nat.{_/_}
 use borrow.Author.Needs.{needs}
+use Rattle.laws.specs.Men.{manNumber}
+use Rattle.accept.specs.declared.Verdict.{Verdict}
+use Rattle.accept.specs.Verdicts.{verdictNumber}
+use Rattle.board.specs.declared.RetractableBoard.{RetractableBoard}
 use Rattle.board.specs.Gate.{menOn}
-use Rattle.board.proofs.Passing.{kind-told}
+use Rattle.board.specs.Said.{pieceSays}
+use Rattle.board.specs.Answers.{askTests, kindOn, pieceNumbered}
+use Rattle.board.proofs.Saying.{tells-by}
+use Rattle.board.proofs.Passing.{ask-number, kind-told}
 use Rattle.board.proofs.RetractableBoard.piece_on.Statement.{statement}
 use Rattle.board.proofs.RetractableBoard.piece_on.Tie as tie
 
-judge-requires : tie.Need-judge-requires
-judge-requires c κs = search needs
+between-table-requires : tie.Need-between-table-requires
+between-table-requires c κs = search needs
+
+ask-gate-requires : tie.Need-ask-gate-requires
+ask-gate-requires c κs = search needs
+
+kept-requires : tie.Need-kept-requires
+kept-requires c κs = search needs
 
 enum-known-v : tie.Need-enum-known-v
 enum-known-v c = search needs
@@ -17,30 +29,28 @@ enum-known-v c = search needs
 enum-told : tie.Need-enum-told
 enum-told c = search needs
 
-returns : tie.Need-returns
-returns c = rw (sym (c .before .before .before .judge .ensures) ∙ c .before .enum-told .given .1, le-ltb (c .before .before .before .before .args .sq) 64 (omega arith))
-
 man-at-requires : tie.Need-man-at-requires
 man-at-requires c κs = search needs
 
 kind-numbered-requires : tie.Need-kind-numbered-requires
 kind-numbered-requires c κs = search needs
 
-returns-2 : tie.Need-returns-2
-returns-2 c = rw (sym (c .before .before .before .judge .ensures) ∙ c .before .v .given .1)
+returns : tie.Need-returns
+returns c = let b = c .before .before .before .before .before .before .before .args .self in let sq = c .before .before .before .before .before .before .before .args .sq in tells-by (c .before .before .before .before .ask-gate .result) (askTests b sq) b (ap (λ (v : Verdict). verdictNumber v) (c .before .before .before .before .ask-gate .ensures) ∙ ask-number b sq) (pieceSays (kindOn (menOn b sq))) (rw (c .before .v .given .1)) (c .before .before .before .kept .ensures)
 
-returns-3 : tie.Need-returns-3
-returns-3 c = c .kind-numbered .ensures ∙ rw (c .before .man-at .ensures .0, sym (c .before .before .before .before .before .before .before .judge .ensures) ∙ c .before .before .before .before .before .enum-told .given .1, lt-ltb (c .before .before .before .before .before .before .before .before .args .sq) 64 (omega arith)) (kind-told (menOn (c .before .before .before .before .before .before .before .before .args .self) (c .before .before .before .before .before .before .before .before .args .sq)))
+returns-2 : tie.Need-returns-2
+returns-2 c = let b = c .before .before .before .before .before .before .before .before .before .before .args .self in let sq = c .before .before .before .before .before .before .before .before .before .before .args .sq in let e : c .before .before .before .before .before .before .kept .result ≡ b = c .before .before .before .before .before .before .kept .ensures ∙ rw (c .before .before .before .before .enum-told .given .1) in tells-by (c .before .before .before .before .before .before .before .ask-gate .result) (askTests b sq) b (ap (λ (v : Verdict). verdictNumber v) (c .before .before .before .before .before .before .before .ask-gate .ensures) ∙ ask-number b sq) (pieceSays (kindOn (menOn b sq))) (rw (c .before .before .before .before .enum-told .given .1, c .kind-numbered .ensures, c .before .man-at .ensures .0) (ap (λ (x : RetractableBoard). pieceSays (pieceNumbered (manNumber (menOn x sq) / 2))) e ∙ ap pieceSays (kind-told (menOn b sq)))) (c .before .before .before .before .before .before .kept .ensures)
 
 pub piece-on-spec : {M : Type 1} → statement M
 piece-on-spec =
     tie.close
     (tie.spec
-    judge-requires
+    between-table-requires
+    ask-gate-requires
+    kept-requires
     enum-known-v
     enum-told
-    returns
     man-at-requires
     kind-numbered-requires
-    returns-2
-    returns-3)
+    returns
+    returns-2)

@@ -1,46 +1,24 @@
 -- `board::RetractableBoard::replay` meets its contract.
-use mathlib.Core.Path.{_∙_, sym}
 use borrow.Author.Needs.{needs}
+use Rattle.accept.specs.declared.Refusal.the-variants.{Step}
+use Rattle.accept.specs.declared.Verdict.the-variants.{Accepted}
+use Rattle.accept.specs.Verdicts.{unless, andThen}
+use Rattle.moves.specs.Stepping.{possibleFor}
+use Rattle.board.specs.Gate.{posOn}
+use Rattle.board.specs.Moving.{replayGate, replayTests, replayedOn}
+use Rattle.board.proofs.Saying.{boards-by}
+use Rattle.board.proofs.Moving.{replay-number}
 use Rattle.board.proofs.RetractableBoard.replay.Statement.{statement}
 use Rattle.board.proofs.RetractableBoard.replay.Tie as tie
 
 between-table-requires : tie.Need-between-table-requires
 between-table-requires c κs = search needs
 
-replay-gate-requires : tie.Need-replay-gate-requires
-replay-gate-requires c κs = search needs
-
-enum-known-v : tie.Need-enum-known-v
-enum-known-v c = search needs
-
-no-board-requires : tie.Need-no-board-requires
-no-board-requires c κs = search needs
-
-board-by-requires : tie.Need-board-by-requires
-board-by-requires c κs = search needs
-
-enum-told : tie.Need-enum-told
-enum-told c = search needs
-
 replayed-requires : tie.Need-replayed-requires
-replayed-requires c κs = (c .before .before .before .before .before .between-table .ensures, sym (c .before .before .before .replay-gate .ensures) ∙ c .before .enum-told .given .1)
+replayed-requires c κs = search needs
 
 returns : tie.Need-returns
-returns c = c .board-by .ensures ∙ rw (sym (c .before .before .before .before .before .replay-gate .ensures) ∙ c .before .before .before .v .given .1)
-
-returns-2 : tie.Need-returns-2
-returns-2 c = c .replayed .ensures ∙ rw (sym (c .before .before .before .before .replay-gate .ensures) ∙ c .before .before .enum-told .given .1)
+returns c = let b = c .before .before .before .before .args .self in let r = c .before .before .before .before .args .r in let k = c .before .before .before .before .args .kind in rw (c .before .replayed .ensures) (boards-by (andThen (replayGate b) (unless (possibleFor (posOn b) r k) Step Accepted)) (replayTests b r k) (replayedOn b r k) (replay-number b r k))
 
 pub replay-spec : {M : Type 1} → statement M
-replay-spec =
-    tie.close
-    (tie.spec
-    between-table-requires
-    replay-gate-requires
-    enum-known-v
-    no-board-requires
-    board-by-requires
-    enum-told
-    replayed-requires
-    returns
-    returns-2)
+replay-spec = tie.close (tie.spec between-table-requires replayed-requires returns)

@@ -1,30 +1,59 @@
 -- `board::inner::moving::replayed` meets its contract.
 use mathlib.Core.Path.{_∙_, _≡_, sym, ap, subst}
 use lib.ListN.{getD, length}
+use mir.Syntax.{w64}
+use mir.Val.{Fits}
 use borrow.Author.Needs.{needs}
 use Rattle.laws.specs.Boards.{Clean}
-use Rattle.laws.specs.Positions.{rightsOf}
 use Rattle.placing.specs.declared.Position.{Position}
 use Rattle.placing.specs.Placed.{posAt}
 use Rattle.replay.specs.Replayed.{replayTo}
 use Rattle.board.specs.Moving.{boardedOf, Sound}
-use mir.Val.{Fits}
-use mir.Syntax.{w64}
-use Rattle.board.proofs.Moving.{five-clean, replay-five, replayed-sound}
+use Rattle.board.proofs.Moving.{replay-clean, replayed-sound, replayed-is}
 use Rattle.board.proofs.inner.moving.replayed.Statement.{statement}
 use Rattle.board.proofs.inner.moving.replayed.Tie as tie
+
+replay-gate-requires : tie.Need-replay-gate-requires
+replay-gate-requires c κs = search needs
+
+enum-known-v : tie.Need-enum-known-v
+enum-known-v c = search needs
+
+no-board-requires : tie.Need-no-board-requires
+no-board-requires c κs = search needs
+
+board-by-requires : tie.Need-board-by-requires
+board-by-requires c κs = search needs
+
+enum-told : tie.Need-enum-told
+enum-told c = search needs
 
 placed-requires : tie.Need-placed-requires
 placed-requires c κs = search needs
 
 replay-requires : tie.Need-replay-requires
-replay-requires c κs = let b = c .before .args .b in (c .before .pre .0, subst (λ (z : Position). Clean (z .pieces) (z .colors)) (sym (c .placed .ensures)) (five-clean (b .pieces) (b .colors) (b .turn) (rightsOf (b .white) (b .black)) (b .passant) (let e : length (b .pieces) ≡ 6 = search needs in e) (let e : length (b .colors) ≡ 2 = search needs in e) (λ i. let f : Fits w64 (getD (b .pieces) i 0) = search needs in f .fits) (λ i. let f : Fits w64 (getD (b .colors) i 0) = search needs in f .fits) (replay-five b (c .before .pre .1)) .0))
+replay-requires c κs = let b = c .before .before .before .before .args .b in (c .before .before .before .before .pre, subst (λ (z : Position). Clean (z .pieces) (z .colors)) (sym (c .placed .ensures)) (replay-clean b (let e : length (b .pieces) ≡ 6 = search needs in e) (let e : length (b .colors) ≡ 2 = search needs in e) (λ i. let f : Fits w64 (getD (b .pieces) i 0) = search needs in f .fits) (λ i. let f : Fits w64 (getD (b .colors) i 0) = search needs in f .fits) (sym (c .before .before .before .replay-gate .ensures) ∙ c .before .enum-told .given .1)))
 
 boarded-requires : tie.Need-boarded-requires
-boarded-requires c κs = let b = c .before .before .args .b in (c .before .before .pre .0, subst Sound (sym (c .replay .ensures ∙ ap (λ (z : Position). replayTo (posAt z) (c .before .before .args .r) (c .before .before .args .kind)) (c .before .placed .ensures))) (replayed-sound (c .before .before .args .b) (c .before .before .args .r) (c .before .before .args .kind) (five-clean (b .pieces) (b .colors) (b .turn) (rightsOf (b .white) (b .black)) (b .passant) (let e : length (b .pieces) ≡ 6 = search needs in e) (let e : length (b .colors) ≡ 2 = search needs in e) (λ i. let f : Fits w64 (getD (b .pieces) i 0) = search needs in f .fits) (λ i. let f : Fits w64 (getD (b .colors) i 0) = search needs in f .fits) (replay-five b (c .before .before .pre .1)) .0) (c .before .before .pre .1)))
+boarded-requires c κs = let a = c .before .before .before .before .before .args in let b = a .b in let h = sym (c .before .before .before .before .replay-gate .ensures) ∙ c .before .before .enum-told .given .1 in (c .before .before .before .before .before .pre, subst Sound (sym (c .replay .ensures ∙ ap (λ (z : Position). replayTo (posAt z) (a .r) (a .kind)) (c .before .placed .ensures))) (replayed-sound b (a .r) (a .kind) (subst (λ (z : Position). Clean (z .pieces) (z .colors)) (c .before .placed .ensures) (replay-requires (c .before) κs .1)) h))
 
 returns : tie.Need-returns
-returns c = c .boarded .ensures ∙ ap boardedOf (c .before .replay .ensures ∙ ap (λ (z : Position). replayTo (posAt z) (c .before .before .before .args .r) (c .before .before .before .args .kind)) (c .before .before .placed .ensures))
+returns c = c .board-by .ensures ∙ rw (sym (c .before .before .before .before .before .replay-gate .ensures) ∙ c .before .before .before .v .given .1)
+
+returns-2 : tie.Need-returns-2
+returns-2 c = let a = c .before .before .before .before .before .before .args in c .boarded .ensures ∙ ap boardedOf (c .before .replay .ensures ∙ ap (λ (z : Position). replayTo (posAt z) (a .r) (a .kind)) (c .before .before .placed .ensures)) ∙ replayed-is (a .b) (a .r) (a .kind) (sym (c .before .before .before .before .before .replay-gate .ensures) ∙ c .before .before .before .enum-told .given .1)
 
 pub replayed-spec : {M : Type 1} → statement M
-replayed-spec = tie.close (tie.spec placed-requires replay-requires boarded-requires returns)
+replayed-spec =
+    tie.close
+    (tie.spec
+    replay-gate-requires
+    enum-known-v
+    no-board-requires
+    board-by-requires
+    enum-told
+    placed-requires
+    replay-requires
+    boarded-requires
+    returns
+    returns-2)

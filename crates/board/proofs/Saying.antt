@@ -1,0 +1,106 @@
+-- What a board's methods say leaves one answer: a verdict with the number of the first test that fails gives what is promised, and any two
+-- answers that say the same are the same.
+use mathlib.Core.Path.{_≡_, refl, sym, ap, _∙_}
+use mathlib.Core.Bool.{Bool, true, false, cond}
+use mathlib.Core.List.{List, _++_}
+use Prim.Native.Nat.{ℕ}
+use native.Mathlib.Omega.{arith}
+use lib.Dec.{eqb}
+use borrow.Author.Tests.{eqb-true}
+use Rattle.laws.specs.declared.Piece.{Piece}
+use Rattle.laws.specs.declared.Piece.the-variants.{Pawn, Knight, Bishop, Rook, Queen, King}
+use Rattle.laws.specs.Men.{kindNumber}
+use Rattle.accept.specs.declared.Refusal.{Refusal}
+use Rattle.accept.specs.declared.Verdict.{Verdict}
+use Rattle.accept.specs.declared.Verdict.the-variants.{Accepted, Refused}
+use Rattle.accept.specs.Verdicts.{numberOf, verdictNumber, andThen}
+use Rattle.accept.specs.Said.{Test, firstFailing, Said}
+use Rattle.board.specs.declared.RetractableBoard.{RetractableBoard}
+use Rattle.board.specs.declared.Boarded.{Boarded}
+use Rattle.board.specs.declared.PieceOn.{PieceOn}
+use Rattle.board.specs.declared.PieceOn.the-variants.{Nobody, Kind, Refused as notAsked}
+use Rattle.board.specs.declared.PieceTold.{PieceTold}
+use Rattle.board.specs.declared.Attacked.{Attacked}
+use Rattle.board.specs.declared.Attacked.the-variants.{Yes, No, Refused as notTold}
+use Rattle.board.specs.declared.AttackTold.{AttackTold}
+use Rattle.board.specs.Gate.{noBoard, keptBy, boardedBy}
+use Rattle.board.specs.Said.{keptBehind, Boards, Tells, pieceSays, attackedSays}
+use Rattle.board.specs.Answers.{pieceNumbered}
+use Rattle.accept.proofs.Numbered.{never}
+use Rattle.accept.proofs.Saying.{more-tests, number-one, verdict-one, saidBy, behind-by}
+
+-- a number of refusal is never 0
+pub some-number : (r : Refusal) → eqb (numberOf r) 0 ≡ false
+some-number r = go (eqb (numberOf r) 0) refl
+  where
+    go : (t : Bool) → eqb (numberOf r) 0 ≡ t → t ≡ false
+    go true e = absurd (never r (verdict-one (Refused r) Accepted (eqb-true _ _ e)))
+    go false e = refl
+
+-- tests behind those whose first number a verdict has
+pub then-numbers : (v w : Verdict) (ts us : List Test) → verdictNumber v ≡ firstFailing ts → verdictNumber w ≡ firstFailing us
+    → verdictNumber (andThen v w) ≡ firstFailing (ts ++ us)
+then-numbers Accepted w ts us h k = rw (more-tests ts us, ← h) k
+then-numbers (Refused r) w ts us h k = rw (more-tests ts us, ← h, some-number r)
+
+module _ (v : Verdict) (ts : List Test) (b : RetractableBoard) (h : verdictNumber v ≡ firstFailing ts) where
+  -- the board beside a verdict
+  kept-behind : keptBy v b ≡ keptBehind ts b
+  kept-behind = go v ∙ ap (λ (n : ℕ). cond (eqb n 0) b noBoard) h
+    where
+      go : (w : Verdict) → keptBy w b ≡ cond (eqb (verdictNumber w) 0) b noBoard
+      go Accepted = refl
+      go (Refused r) = rw (some-number r)
+
+  pub boards-by : Boards ts b (boardedBy v b)
+  boards-by = record { number = h; board = kept-behind }
+
+  pub boards-is : (r : Boarded) → Boards ts b r → r ≡ boardedBy v b
+  boards-is r k = λ i. record { verdict = verdict-one (r .verdict) v (k .number ∙ sym h) i; board = (k .board ∙ sym kept-behind) i }
+
+  pub tells-by : (x : Said) {answer : Said} {left : RetractableBoard} → answer ≡ saidBy v x → left ≡ keptBy v b → Tells ts x b answer left
+  tells-by x p q = record { said = p ∙ behind-by v ts x h; board = q ∙ kept-behind }
+
+-- any two answers agree
+pub boards-one : {ts : List Test} {b : RetractableBoard} (r q : Boarded) → Boards ts b r → Boards ts b q → r ≡ q
+boards-one r q k l = λ i. record { verdict = verdict-one (r .verdict) (q .verdict) (k .number ∙ sym (l .number)) i; board = (k .board ∙ sym (l .board)) i }
+
+-- a kind by its number
+kind-back : (k : Piece) → pieceNumbered (kindNumber k) ≡ Kind k
+unfolding pieceNumbered
+kind-back Pawn = refl
+kind-back Knight = refl
+kind-back Bishop = refl
+kind-back Rook = refl
+kind-back Queen = refl
+kind-back King = refl
+
+pub piece-one : (x y : PieceOn) → pieceSays x ≡ pieceSays y → x ≡ y
+unfolding pieceNumbered
+piece-one Nobody Nobody h = refl
+piece-one Nobody (Kind k) h = let e : 0 ≡ kindNumber k = cc in ap pieceNumbered e ∙ kind-back k
+piece-one (Kind k) Nobody h = let e : kindNumber k ≡ 0 = cc in sym (kind-back k) ∙ ap pieceNumbered e
+piece-one (Kind k) (Kind l) h = let e : kindNumber k ≡ kindNumber l = cc in sym (kind-back k) ∙ ap pieceNumbered e ∙ kind-back l
+piece-one (notAsked r) (notAsked q) h = ap notAsked (number-one r q (cc))
+piece-one Nobody (notAsked q) h = let z : _≡_ {A = ℕ} 0 1 = cc in absurd (omega arith)
+piece-one (Kind k) (notAsked q) h = let z : _≡_ {A = ℕ} 0 1 = cc in absurd (omega arith)
+piece-one (notAsked r) Nobody h = let z : _≡_ {A = ℕ} 0 1 = cc in absurd (omega arith)
+piece-one (notAsked r) (Kind l) h = let z : _≡_ {A = ℕ} 0 1 = cc in absurd (omega arith)
+
+pub attacked-one : (x y : Attacked) → attackedSays x ≡ attackedSays y → x ≡ y
+attacked-one Yes Yes h = refl
+attacked-one No No h = refl
+attacked-one (notTold r) (notTold q) h = ap notTold (number-one r q (cc))
+attacked-one Yes No h = let z : _≡_ {A = ℕ} 0 1 = cc in absurd (omega arith)
+attacked-one No Yes h = let z : _≡_ {A = ℕ} 0 1 = cc in absurd (omega arith)
+attacked-one Yes (notTold q) h = let z : _≡_ {A = ℕ} 0 1 = cc in absurd (omega arith)
+attacked-one No (notTold q) h = let z : _≡_ {A = ℕ} 0 1 = cc in absurd (omega arith)
+attacked-one (notTold r) Yes h = let z : _≡_ {A = ℕ} 0 1 = cc in absurd (omega arith)
+attacked-one (notTold r) No h = let z : _≡_ {A = ℕ} 0 1 = cc in absurd (omega arith)
+
+module _ {ts : List Test} {x : Said} {b : RetractableBoard} where
+  pub piece-told-one : (r q : PieceTold) → Tells ts x b (pieceSays (r .answer)) (r .board) → Tells ts x b (pieceSays (q .answer)) (q .board) → r ≡ q
+  piece-told-one r q k l = λ i. record { answer = piece-one (r .answer) (q .answer) (k .said ∙ sym (l .said)) i; board = (k .board ∙ sym (l .board)) i }
+
+  pub attack-told-one : (r q : AttackTold) → Tells ts x b (attackedSays (r .answer)) (r .board) → Tells ts x b (attackedSays (q .answer)) (q .board) → r ≡ q
+  attack-told-one r q k l = λ i. record { answer = attacked-one (r .answer) (q .answer) (k .said ∙ sym (l .said)) i; board = (k .board ∙ sym (l .board)) i }
