@@ -16,11 +16,10 @@ use Rattle.accept.specs.declared.Verdict.the-variants.{Accepted}
 use Rattle.board.specs.declared.RetractableBoard.{RetractableBoard}
 use Rattle.board.specs.declared.Boarded.{Boarded}
 use Rattle.board.specs.Gate.{posOn, gateOf, boardedBy}
-use Rattle.board.specs.Answers.{workedOf}
 use Rattle.strict.specs.Demand.{Among, IsStrictList}
 use Rattle.text.specs.Form.{Fields, printed, Says, fieldsOf}
 use Rattle.text.specs.Reading.{startOf, runOf, rawOf}
-use Rattle.text.specs.Entries.{boardSaid, Reads, said}
+use Rattle.text.specs.Entries.{fieldBoard, Reads}
 use Rattle.daggers.specs.Names.{bytes}
 use Rattle.daggers.specs.Table.{OnText, StrictOf}
 use Rattle.squares.proofs.Testing.{both, failed}
@@ -29,7 +28,7 @@ use Rattle.squares.proofs.Comprehension.{flag-lt}
 use Rattle.laws.proofs.StrictMembers.{placed-place, strict-in}
 use Rattle.board.proofs.Passing.{gate-judged}
 use Rattle.text.proofs.Inverse.{in-form, says-men-ok}
-use Rattle.text.proofs.RoundTrip.{read-one}
+use Rattle.text.proofs.RoundTrip.{read-said}
 use Rattle.strict.proofs.Told.{gate-by, strict-past}
 
 -- what the reader's walk reads, and the board of it
@@ -37,7 +36,7 @@ abbrev pub fieldsIn : String → Fields
 fieldsIn t = fieldsOf (rawOf (runOf startOf (bytes t)))
 
 abbrev pub boardIn : String → RetractableBoard
-boardIn t = let f = fieldsIn t in workedOf (f .pieces) (f .colors) (f .turn) (f .white) (f .black) (f .passant)
+boardIn t = fieldBoard (fieldsIn t)
 
 -- a text that the printer gives back, of an accepted position
 module _ (t : String) (prints : printed (fieldsIn t) ≡ bytes t) (lawful : accepted (posOn (boardIn t)) ≡ true) where
@@ -52,7 +51,7 @@ module _ (t : String) (prints : printed (fieldsIn t) ≡ bytes t) (lawful : acce
 
   read-is : (b : Boarded) → Reads (bytes t) b → b ≡ record { verdict = Accepted; board = boardIn t }
   read-is b h =
-      read-one (bytes t) b (boardSaid (fieldsIn t)) h (said (fieldsIn t) says refl)
+      read-said (bytes t) b (fieldsIn t) h says
       ∙ ap (λ (v : Verdict). boardedBy v (boardIn t)) (gate-judged (boardIn t) gate)
 
   pub on-text : (P : RetractableBoard → Type 0) → P (boardIn t) → OnText t P
