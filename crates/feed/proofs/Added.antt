@@ -12,7 +12,7 @@ use borrow.Author.Tests.{le-leb, lt-leb, leb-true, leb-false}
 use Rattle.io.specs.Digits.{digits, Fewest}
 use Rattle.feed.specs.declared.Put.{Put}
 use Rattle.feed.specs.declared.Put.the-variants.{Count, Room}
-use Rattle.feed.specs.Appending.{putSays, putOf, usedOf, addedLen, addedOut, Puts, PutsDecimal, Adds}
+use Rattle.feed.specs.Appending.{putSays, putOf, usedOf, addedOut, Puts, PutsDecimal, Adds}
 
 -- the test for room subtracts
 pub room-is : (have len n : ℕ) → len ≤ have → leb n (have - len) ≡ leb (len + n) have

@@ -12,6 +12,8 @@ use lib.Seq.{paste, paste-suc, getD-drop}
 use borrow.Author.Tests.{eq-eqb, ne-eqb, eqb-true, eqb-false, ltb-true, ltb-false}
 use Rattle.squares.specs.Tests.{_or_}
 use Rattle.feed.specs.declared.Part.{Part}
+use Rattle.feed.specs.declared.Ending.{Ending}
+use Rattle.feed.specs.declared.Ending.the-variants.{Newline}
 use Rattle.feed.specs.Splitting.{stopFrom, stopOf, keptOf, cutOf, lineOf}
 
 -- one more byte of s is in o
@@ -45,20 +47,18 @@ cutBy p stop n = record {
   end = p .end;
   len = p .len + n;
   long = p .long or ltb n (stop - p .at);
-  ready = ltb stop (p .end);
-  over = false;
-  failed = false;
+  ending = cond (ltb stop (p .end)) Newline (p .ending);
 }
 
-module _ (s l x : List ℕ) (p : Part) (stop n at : ℕ) (e : stop ≡ stopOf s p) (k : n ≡ min (stop - p .at) (512 - p .len)) where
+module _ (s l x : List ℕ) (p : Part) (stop n at : ℕ) (ending : Ending) (e : stop ≡ stopOf s p) (k : n ≡ min (stop - p .at) (512 - p .len)) where
   kept-is : n ≡ keptOf s p
   kept-is = k ∙ ap (λ (i : ℕ). min (i - p .at) (512 - p .len)) e
 
-  pub cut-is : at ≡ cond (ltb stop (p .end)) (stop + 1) (p .end)
-      → record { at = at; end = p .end; len = p .len + n; long = p .long || ltb n (stop - p .at); ready = ltb stop (p .end); over = false; failed = false } ≡ cutOf s p
+  pub cut-is : at ≡ cond (ltb stop (p .end)) (stop + 1) (p .end) → ending ≡ cond (ltb stop (p .end)) Newline (p .ending)
+      → record { at = at; end = p .end; len = p .len + n; long = p .long || ltb n (stop - p .at); ending = ending } ≡ cutOf s p
   unfolding _or_
-  cut-is h =
-      (λ i. record { at = h i; end = p .end; len = p .len + n; long = p .long or ltb n (stop - p .at); ready = ltb stop (p .end); over = false; failed = false })
+  cut-is h q =
+      (λ i. record { at = h i; end = p .end; len = p .len + n; long = p .long or ltb n (stop - p .at); ending = q i })
       ∙ ap₂ (cutBy p) e kept-is
 
   pub line-is : x ≡ paste l (p .len) (drop (p .at) s) n → x ≡ lineOf s p l

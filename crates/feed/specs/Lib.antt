@@ -1,2 +1,3 @@
 pub mod Splitting
+pub mod Reading
 pub mod Appending

@@ -1,14 +1,19 @@
 -- A line cut out of what was read: where it ends, what of it is kept, and where the cursor then stands.
-use mathlib.Core.Bool.{false, cond}
+use mathlib.Core.Path.{_≡_}
+use mathlib.Core.Bool.{Bool, true, false, cond}
 use mathlib.Core.List.{List}
 use Prim.Native.Nat.{ℕ, zero, suc, _+_, _-_, _≤_, min}
 use lib.Dec.{eqb, ltb}
-use lib.ListN.{getD, drop}
+use lib.IntN.{ℤ, pos, negsuc}
+use lib.ListN.{length, getD, drop}
 use lib.Seq.{paste}
+use Rattle.libc.specs.Io.{Moved}
+use Rattle.io.specs.Counts.{clamped}
 use Rattle.squares.specs.Tests.{_or_}
+use Rattle.feed.specs.declared.Cursor.{Cursor}
 use Rattle.feed.specs.declared.Part.{Part}
-use Rattle.feed.specs.declared.Step.{Step}
-use Rattle.feed.specs.declared.Step.the-variants.{Line, End, Failed}
+use Rattle.feed.specs.declared.Ending.{Ending}
+use Rattle.feed.specs.declared.Ending.the-variants.{Open, Newline, Over, Failed}
 
 -- the place of the first newline among the n bytes from `at` on, or the place past them
 unfoldable pub stopFrom : List ℕ → ℕ → ℕ → ℕ
@@ -30,9 +35,7 @@ cutOf s p = record {
   end = p .end;
   len = p .len + keptOf s p;
   long = p .long or ltb (keptOf s p) (stopOf s p - p .at);
-  ready = ltb (stopOf s p) (p .end);
-  over = false;
-  failed = false;
+  ending = cond (ltb (stopOf s p) (p .end)) Newline (p .ending);
 }
 
 -- the line's buffer after the cut
@@ -45,8 +48,39 @@ pub record Fit (p : Part) : Type 0 where
   pub inside : p .end ≤ 65536
   pub short : p .len ≤ 512
 
--- a line is in the buffer of 512
-abbrev pub Sound : Step → Type 0
-Sound (Line n long c) = n ≤ 512
-Sound End = Unit {0}
-Sound Failed = Unit {0}
+-- the cut of a part p of the chunk s; that a chunk has 65,536 bytes no caller could tell otherwise
+pub record Cuts (s l : List ℕ) (p r : Part) (l′ : List ℕ) : Type 0 where
+  pub cut : r ≡ cutOf s p
+  pub keeps : l′ ≡ lineOf s p l
+  pub fits : Fit r
+  pub wide : length s ≡ 65536
+
+-- the bytes of a line have not ended
+abbrev pub isOpen : Ending → Bool
+isOpen Open = true
+isOpen Newline = false
+isOpen Over = false
+isOpen Failed = false
+
+abbrev pub cursorOf : Part → Cursor
+cursorOf p = record { at = p .at; end = p .end }
+
+-- a part of which nothing is in the line's buffer yet
+abbrev pub openedAt : Cursor → Part
+openedAt c = record { at = c .at; end = c .end; len = 0; long = false; ending = Open }
+
+-- after a read that answered `got`, n bytes
+abbrev pub endingOf : ℤ → Ending
+endingOf (pos (suc n)) = Open
+endingOf (pos zero) = Over
+endingOf (negsuc n) = Failed
+
+abbrev pub filledOf : Part → ℤ → ℕ → Part
+filledOf p got n = record { at = 0; end = n; len = p .len; long = p .long; ending = endingOf got }
+
+-- one read, and the cut of what came
+pub record Turns (p : Part) (l : List ℕ) (r : Part) (s′ l′ : List ℕ) : Type 0 where
+  pub got : ℤ
+  pub answered : Moved 65536 got × (length s′ ≡ 65536)
+  pub cut : r ≡ cutOf s′ (filledOf p got (clamped got 65536))
+  pub keeps : l′ ≡ lineOf s′ (filledOf p got (clamped got 65536)) l

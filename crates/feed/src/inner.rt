@@ -1,4 +1,5 @@
 // The line that is cut out of what was read, and a copy into a buffer.
+use super::Ending;
 use super::Part;
 ghost use mathlib.Core.Path.{_≡_};
 ghost use mathlib.Core.Bool.{cond};
@@ -6,7 +7,8 @@ ghost use Prim.Native.Nat.{_+_, _-_, _≤_, min};
 ghost use lib.Dec.{leb, ltb};
 ghost use lib.ListN.{length, drop};
 ghost use lib.Seq.{paste};
-ghost use Rattle.feed.specs.Splitting.{stopFrom, cutOf, lineOf, Fit};
+ghost use Rattle.feed.specs.declared.Ending.the-variants.{Newline};
+ghost use Rattle.feed.specs.Splitting.{stopFrom, Fit, Cuts};
 
 // n bytes of `src` go into `out` from `at` on.
 pub fn copy(out: &mut [u8], at: usize, src: &[u8], from: usize, n: usize)
@@ -59,14 +61,22 @@ fn past(stop: usize, end: usize) -> usize
     if stop < end { stop + 1 } else { end }
 }
 
+// A newline among the bytes ends a line; otherwise it ends as it did.
+fn ending_at(stop: usize, end: usize, ending: Ending) -> Ending
+    ensures { λ r. ⌜ r ≡ cond (ltb stop end) Newline ending ⌝ }
+{
+    if stop < end { Ending::Newline } else { ending }
+}
+
 // The unread bytes up to the newline go into the line's buffer, as far as it has room.
 pub fn cut(chunk: &[u8; 65536], line: &mut [u8; 512], p: Part) -> Part
     requires { ⌜ Fit p ⌝ }
-    ensures { λ r. ⌜ (r ≡ cutOf (now (chunk .entry)) p) × (now (line .exit) ≡ lineOf (now (chunk .entry)) p (now (line .entry))) × Fit r ⌝ }
+    ensures { λ r. ⌜ Cuts (now (chunk .entry)) (now (line .entry)) p r (now (line .exit)) ⌝ }
 {
     let at = p.at;
     let end = p.end;
     let len = p.len;
+    let ending = p.ending;
     let stop = find(chunk, at, end);
     let n = least(stop - at, 512 - len);
     copy(line, len, chunk, at, n);
@@ -75,8 +85,6 @@ pub fn cut(chunk: &[u8; 65536], line: &mut [u8; 512], p: Part) -> Part
         end,
         len: len + n,
         long: p.long | (n < stop - at),
-        ready: stop < end,
-        over: false,
-        failed: false,
+        ending: ending_at(stop, end, ending),
     }
 }

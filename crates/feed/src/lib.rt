@@ -3,7 +3,9 @@ use libc::STDIN_FILENO;
 ghost use mathlib.Core.Path.{_≡_};
 ghost use Prim.Native.Nat.{_≤_};
 ghost use Rattle.io.specs.Digits.{digits};
-ghost use Rattle.feed.specs.Splitting.{Fit, Sound};
+ghost use Rattle.feed.specs.declared.Step.the-variants.{Line};
+ghost use Rattle.feed.specs.Splitting.{Fit, isOpen, cursorOf, openedAt, endingOf, filledOf, Turns};
+ghost use Rattle.feed.specs.Reading.{unreadAt, stepFor, Gives};
 ghost use Rattle.feed.specs.Appending.{usedOf, Puts, PutsDecimal};
 
 pub mod inner; // inner.rt: a line cut out of what was read, and a copy into a buffer
@@ -25,15 +27,21 @@ pub enum Step {
     Failed,
 }
 
-// A line on its way into the line's buffer: `ready` at its newline, `over` at the end of the input, where `failed` says why it ended.
+// How the bytes of a line end: not yet, at a newline, at the end of the input, or at a read that failed.
+pub enum Ending {
+    Open,
+    Newline,
+    Over,
+    Failed,
+}
+
+// A line on its way into the line's buffer, and the unread bytes behind it.
 pub struct Part {
     pub at: usize,
     pub end: usize,
     pub len: usize,
     pub long: bool,
-    pub ready: bool,
-    pub over: bool,
-    pub failed: bool,
+    pub ending: Ending,
 }
 
 // Nothing is read yet.
@@ -43,101 +51,118 @@ pub fn start() -> Cursor
     Cursor { at: 0, end: 0 }
 }
 
-// The next line. Nothing says that an input ends, so the turns are counted down from a number that no input uses up.
+// The next line. Nothing says that an input ends, so the reads are counted down from a number that no input uses up.
 pub fn next(chunk: &mut [u8; 65536], line: &mut [u8; 512], c: Cursor) -> Step
-    ensures { λ r. ⌜ Sound r ⌝ }
+    ensures { λ r. ⌜ Gives (now (chunk .entry)) (now (line .entry)) c r (now (chunk .exit)) (now (line .exit)) ⌝ }
 {
-    let mut p = opened(c);
+    let mut p = inner::cut(chunk, line, opened(c));
     let mut turns = u64::MAX;
-    while turns > 0 && open(p) {
+    while turns > 0 && is_open(p) {
         p = turn(chunk, line, p);
         turns -= 1;
     }
     step_of(p)
 }
 
-// A cursor that no chunk has says that nothing is read.
 fn opened(c: Cursor) -> Part
-    ensures { λ r. ⌜ Fit r ⌝ }
+    ensures { λ r. ⌜ (r ≡ openedAt (unreadAt c)) × Fit r ⌝ }
+{
+    let u = unread(c);
+    Part {
+        at: u.at,
+        end: u.end,
+        len: 0,
+        long: false,
+        ending: Ending::Open,
+    }
+}
+
+// A cursor that no chunk has says that nothing is read.
+fn unread(c: Cursor) -> Cursor
+    ensures { λ r. ⌜ (r ≡ unreadAt c) × (r .at ≤ r .end) × (r .end ≤ 65536) ⌝ }
 {
     let at = c.at;
     let end = c.end;
     if at <= end {
         if end <= 65536 {
-            return from(at, end);
+            return c;
         }
     }
-    from(0, 0)
+    start()
 }
 
-fn from(at: usize, end: usize) -> Part
-    requires { ⌜ (at ≤ end) × (end ≤ 65536) ⌝ }
-    ensures { λ r. ⌜ Fit r ⌝ }
+fn is_open(p: Part) -> bool
+    ensures { λ r. ⌜ r ≡ isOpen (p .ending) ⌝ }
 {
-    Part {
-        at,
-        end,
-        len: 0,
-        long: false,
-        ready: false,
-        over: false,
-        failed: false,
+    let ending = p.ending;
+    match ending {
+        Ending::Open => true,
+        Ending::Newline => false,
+        Ending::Over => false,
+        Ending::Failed => false,
     }
 }
 
-fn open(p: Part) -> bool {
-    !(p.ready | p.over)
-}
-
-// Cuts what is unread, or reads more.
+// Reads once, and cuts what came.
 fn turn(chunk: &mut [u8; 65536], line: &mut [u8; 512], p: Part) -> Part
     requires { ⌜ Fit p ⌝ }
-    ensures { λ r. ⌜ Fit r ⌝ }
+    ensures { λ r. ⌜ Turns p (now (line .entry)) r (now (chunk .exit)) (now (line .exit)) ⌝ }
 {
-    let at = p.at;
-    let end = p.end;
-    if at < end {
-        return inner::cut(chunk, line, p);
-    }
     let got = libc::read(STDIN_FILENO, chunk);
     let n = io::count(got, chunk);
-    filled(p, n, got < 0)
+    inner::cut(chunk, line, filled(p, got, n))
 }
 
-// After a read of n bytes, none where it failed. At the end of the input what has no newline is a line too.
-fn filled(p: Part, n: usize, failed: bool) -> Part
+// After a read that answered `got`, n bytes.
+fn filled(p: Part, got: isize, n: usize) -> Part
     requires { ⌜ Fit p × (n ≤ 65536) ⌝ }
-    ensures { λ r. ⌜ Fit r ⌝ }
+    ensures { λ r. ⌜ (r ≡ filledOf p got n) × Fit r ⌝ }
 {
     Part {
         at: 0,
         end: n,
         len: p.len,
         long: p.long,
-        ready: (n == 0) & (p.len > 0),
-        over: n == 0,
-        failed,
+        ending: ending_of(got),
     }
 }
 
-fn step_of(p: Part) -> Step
-    requires { ⌜ Fit p ⌝ }
-    ensures { λ r. ⌜ Sound r ⌝ }
+fn ending_of(got: isize) -> Ending
+    ensures { λ r. ⌜ r ≡ endingOf got ⌝ }
 {
-    if p.ready {
-        return Step::Line {
-            len: p.len,
-            long: p.long,
-            next: Cursor {
-                at: p.at,
-                end: p.end,
-            },
-        };
+    if got < 0 {
+        return Ending::Failed;
     }
-    if p.failed {
-        return Step::Failed;
+    if got == 0 {
+        return Ending::Over;
     }
-    Step::End
+    Ending::Open
+}
+
+// At the end of the input what has no newline is a line too. A line that a failed read cut off is none.
+fn step_of(p: Part) -> Step
+    ensures { λ r. ⌜ r ≡ stepFor (p .ending) (p .len) (p .long) (cursorOf p) ⌝ }
+{
+    let ending = p.ending;
+    match ending {
+        Ending::Newline => line_of(p),
+        Ending::Over => if p.len > 0 { line_of(p) } else { Step::End },
+        Ending::Failed => Step::Failed,
+        Ending::Open => Step::Failed,
+    }
+}
+
+fn line_of(p: Part) -> Step
+    ensures { λ r. ⌜ r ≡ Line (p .len) (p .long) (cursorOf p) ⌝ }
+{
+    Step::Line {
+        len: p.len,
+        long: p.long,
+        next: Cursor {
+            at: p.at,
+            end: p.end,
+        },
+    }
 }
 
 // What putting bytes into a buffer answers: how many of its bytes are then in use, or, where it has no room for them, how many it needs.

@@ -1,10 +1,10 @@
 -- `ask::answer_all` meets its contract.
-use mathlib.Core.Path.{_≡_, subst}
+use mathlib.Core.Path.{_≡_}
 use Prim.Native.Nat.{_≤_}
 use native.Mathlib.Omega.{arith}
 use lib.ListN.{length}
 use borrow.Author.Needs.{needs}
-use Rattle.feed.specs.Splitting.{Sound}
+use Rattle.feed.proofs.Searched.{line-short}
 use Rattle.ask.proofs.answer_all.Statement.{statement}
 use Rattle.ask.proofs.answer_all.Tie as tie
 
@@ -30,7 +30,10 @@ returns : tie.Need-returns Inv-loop μ-loop
 returns c = search needs
 
 answer-requires : tie.Need-answer-requires Inv-loop μ-loop
-answer-requires c κs = let k : c .before .before .before .before .s .given .0 .0 ≤ 512 = subst Sound (c .before .before .before .before .s .given .1) (c .before .before .before .before .before .before .next .ensures) in let e : length (c .before .before .before .before .before .before .next .last .1 .0) ≡ 512 = search needs in omega arith
+answer-requires c κs =
+    let k : c .before .before .before .before .s .given .0 .0 ≤ 512 = line-short _ _ _ _ _ _ (c .before .before .before .before .before .before .next .ensures) _ _ _ (c .before .before .before .before .s .given .1) in
+    let e : length (c .before .before .before .before .before .before .next .last .1 .0) ≡ 512 = search needs in
+    omega arith
 
 sub-turns : tie.Need-sub-turns Inv-loop μ-loop
 sub-turns c = omega arith

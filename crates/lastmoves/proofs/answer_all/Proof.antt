@@ -1,10 +1,10 @@
 -- `lastmoves::answer_all` meets its contract.
 use borrow.Author.Needs.{needs}
-use mathlib.Core.Path.{_≡_, subst}
+use mathlib.Core.Path.{_≡_}
 use Prim.Native.Nat.{_≤_}
 use native.Mathlib.Omega.{arith}
 use lib.ListN.{length}
-use Rattle.feed.specs.Splitting.{Sound}
+use Rattle.feed.proofs.Searched.{line-short}
 use Rattle.lastmoves.proofs.answer_all.Statement.{statement}
 use Rattle.lastmoves.proofs.answer_all.Tie as tie
 
@@ -45,7 +45,7 @@ enum-known-s : tie.Need-enum-known-s Inv-loop μ-loop
 enum-known-s c = search needs
 
 answer-line-requires : tie.Need-answer-line-requires Inv-loop μ-loop
-answer-line-requires c κs = let k : c .before .before .before .before .before .before .s .given .0 .0 ≤ 512 = subst Sound (c .before .before .before .before .before .before .s .given .1) (c .before .before .before .before .before .before .before .before .next .ensures) in let e : length (c .before .before .before .before .before .before .before .before .next .last .1 .0) ≡ 512 = search needs in omega arith
+answer-line-requires c κs = let k : c .before .before .before .before .before .before .s .given .0 .0 ≤ 512 = line-short _ _ _ _ _ _ (c .before .before .before .before .before .before .before .before .next .ensures) _ _ _ (c .before .before .before .before .before .before .s .given .1) in let e : length (c .before .before .before .before .before .before .before .before .next .last .1 .0) ≡ 512 = search needs in omega arith
 
 slice-aggregate-write-all-2 : tie.Need-slice-aggregate-write-all-2 Inv-loop μ-loop
 slice-aggregate-write-all-2 c = search needs

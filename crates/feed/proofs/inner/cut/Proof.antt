@@ -24,14 +24,17 @@ copy-requires c κs = search needs
 past-requires : tie.Need-past-requires
 past-requires c κs = search needs
 
-add-t10 : tie.Need-add-t10
-add-t10 c = search needs
+add-t11 : tie.Need-add-t11
+add-t11 c = search needs
 
-sub-t16 : tie.Need-sub-t16
-sub-t16 c = search needs
+sub-t17 : tie.Need-sub-t17
+sub-t17 c = search needs
+
+ending-at-requires : tie.Need-ending-at-requires
+ending-at-requires c κs = search needs
 
 returns : tie.Need-returns
-returns c = (cut-is (now (c .before .before .before .before .before .before .before .args .chunk)) (now (c .before .before .before .before .before .before .before .args .line)) (c .before .before .copy .last .0) (c .before .before .before .before .before .before .before .args .p) (c .before .before .before .before .before .before .find .result) (c .before .before .before .before .before .least .result) (c .before .past .result) (c .before .before .before .before .before .before .find .ensures .0) (c .before .before .before .before .before .least .ensures .0) (c .before .past .ensures .0), line-is (now (c .before .before .before .before .before .before .before .args .chunk)) (now (c .before .before .before .before .before .before .before .args .line)) (c .before .before .copy .last .0) (c .before .before .before .before .before .before .before .args .p) (c .before .before .before .before .before .before .find .result) (c .before .before .before .before .before .least .result) (c .before .past .result) (c .before .before .before .before .before .before .find .ensures .0) (c .before .before .before .before .before .least .ensures .0) (c .before .before .copy .ensures), record { unread = c .before .past .ensures .1; inside = c .before .before .before .before .before .before .before .pre .inside; short = omega arith })
+returns c = record { cut = cut-is (now (c .before .before .before .before .before .before .before .before .args .chunk)) (now (c .before .before .before .before .before .before .before .before .args .line)) (c .before .before .before .copy .last .0) (c .before .before .before .before .before .before .before .before .args .p) (c .before .before .before .before .before .before .before .find .result) (c .before .before .before .before .before .before .least .result) (c .before .before .past .result) (c .ending-at .result) (c .before .before .before .before .before .before .before .find .ensures .0) (c .before .before .before .before .before .before .least .ensures .0) (c .before .before .past .ensures .0) (c .ending-at .ensures); keeps = line-is (now (c .before .before .before .before .before .before .before .before .args .chunk)) (now (c .before .before .before .before .before .before .before .before .args .line)) (c .before .before .before .copy .last .0) (c .before .before .before .before .before .before .before .before .args .p) (c .before .before .before .before .before .before .before .find .result) (c .before .before .before .before .before .before .least .result) (c .before .before .past .result) (c .ending-at .result) (c .before .before .before .before .before .before .before .find .ensures .0) (c .before .before .before .before .before .before .least .ensures .0) (c .before .before .before .copy .ensures); fits = record { unread = c .before .before .past .ensures .1; inside = c .before .before .before .before .before .before .before .before .pre .inside; short = omega arith }; wide = search needs }
 
 pub cut-spec : {M : Type 1} → statement M
 cut-spec =
@@ -43,6 +46,7 @@ cut-spec =
     least-requires
     copy-requires
     past-requires
-    add-t10
-    sub-t16
+    add-t11
+    sub-t17
+    ending-at-requires
     returns)
