@@ -1,3 +1,4 @@
 pub mod Saying
 pub mod Passing
 pub mod Moving
+pub mod Places
