@@ -44,13 +44,21 @@ more-tests [] us = refl
 more-tests ((true else r) ∷ ts) us = more-tests ts us
 more-tests ((false else r) ∷ ts) us = rw (some-number r)
 
--- a further test behind those whose first number a verdict has
+-- tests behind those whose first number a verdict has
+pub then-numbers : (v w : Verdict) (ts us : List Test) → verdictNumber v ≡ firstFailing ts → verdictNumber w ≡ firstFailing us
+    → verdictNumber (andThen v w) ≡ firstFailing (ts ++ us)
+then-numbers Accepted w ts us h k = rw (more-tests ts us, ← h) k
+then-numbers (Refused r) w ts us h k = rw (more-tests ts us, ← h, some-number r)
+
+one-number : (ok : Bool) (r : Refusal) → verdictNumber (unless ok r Accepted) ≡ firstFailing ((ok else r) ∷ [])
+unfolding firstFailing
+one-number true r = refl
+one-number false r = refl
+
+-- and one test more
 pub then-number : (v : Verdict) (ts : List Test) (ok : Bool) (r : Refusal) → verdictNumber v ≡ firstFailing ts
     → verdictNumber (andThen v (unless ok r Accepted)) ≡ firstFailing (ts ++ ((ok else r) ∷ []))
-unfolding firstFailing
-then-number Accepted ts true r h = rw (more-tests ts ((true else r) ∷ []), ← h)
-then-number Accepted ts false r h = rw (more-tests ts ((false else r) ∷ []), ← h)
-then-number (Refused q) ts ok r h = rw (more-tests ts ((ok else r) ∷ []), ← h, some-number q)
+then-number v ts ok r h = then-numbers v (unless ok r Accepted) ts ((ok else r) ∷ []) h (one-number ok r)
 
 module _ (pieces colors : List ℕ) (c : Color) (ρ : Rights) (st : EnPassantFlag) where
   -- 1 to 5, and 1 to 6

@@ -2,3 +2,4 @@ pub mod Saying
 pub mod Passing
 pub mod Moving
 pub mod Numbers
+pub mod Places

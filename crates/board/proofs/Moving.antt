@@ -1,9 +1,9 @@
--- Un-make and replay of an accepted board give clean men with their kings; the un-made board passes 1 to 5 and 7; and replay after
--- un-make gives back the board but for its en passant state.
+-- Un-make and replay of a board: their numbers; the board whose own sets went back is the un-made one, which passes 1 to 5 and 7; and replay
+-- after un-make gives back the board but for its en passant state.
 use mathlib.Core.Path.{_≡_, refl, sym, ap, _∙_, subst}
 use mathlib.Core.Bool.{Bool, true, false, not, cond}
 use mathlib.Core.List.{List, [], _∷_, _++_}
-use Prim.Native.Nat.{ℕ}
+use Prim.Native.Nat.{ℕ, _<_}
 use lib.ListN.{length}
 use borrow.Author.Tests.{eq-eqb}
 use Rattle.geometry.specs.declared.Color.{Color}
@@ -13,34 +13,35 @@ use Rattle.laws.specs.Men.{Men}
 use Rattle.laws.specs.Attacks.{unionOf, checkersOf, pinsOf}
 use Rattle.laws.specs.Positions.{Rights, Pos, rightsOf}
 use Rattle.laws.specs.Acceptance.{kingsOk, accepted}
-use Rattle.laws.specs.Boards.{menAt, Clean}
+use Rattle.laws.specs.Unmaking.{unmade}
+use Rattle.laws.specs.Boards.{menAt, Clean, Board, boardOf}
 use Rattle.accept.specs.declared.Refusal.the-variants.{Stale, Source, Target, Held, Step}
-use Rattle.accept.specs.declared.Verdict.{Verdict}
-use Rattle.accept.specs.declared.Verdict.the-variants.{Accepted, Refused}
+use Rattle.accept.specs.declared.Verdict.the-variants.{Accepted}
 use Rattle.accept.specs.Verdicts.{verdictNumber, unless, andThen, fiveOf}
 use Rattle.accept.specs.Said.{_else_, firstFailing, fiveTests}
 use Rattle.placing.specs.declared.Position.{Position}
-use Rattle.placing.specs.Placed.{posAt}
+use Rattle.placing.specs.Placed.{posAt, positionOf}
 use Rattle.moves.specs.Stepping.{possibleFor}
 use Rattle.unmake.specs.declared.Unmade.{Unmade}
 use Rattle.unmake.specs.Retracted.{answered, refused, sourceFor, targetFor, heldFor, stepFor, unmadeFor, steppedTo, unmadeTo}
 use Rattle.replay.specs.Replayed.{replayedFor, replayTo}
+use Rattle.incremental.specs.Moved.{rustMoved}
+use Rattle.incremental.specs.Found.{foundStored}
 use Rattle.board.specs.declared.RetractableBoard.{RetractableBoard}
-use Rattle.board.specs.declared.Boarded.{Boarded}
-use Rattle.board.specs.Gate.{menOn, posOn, freshBy, gateOf, boardTests, boardedBy}
+use Rattle.board.specs.Gate.{menOn, posOn, toLaws, freshBy, gateOf, boardTests, boardedBy}
 use Rattle.board.specs.Answers.{workedOf, withPassant}
-use Rattle.board.specs.Moving.{placedOn, workedAt, boardedOf, unmakeTests, unmakeGate, unmadeOn, unmadeBoard, earlierTests, replayGateBy, replayGate, replayTests, replayedOn, replayedBoard, Sound}
+use Rattle.board.specs.Moving.{placedOn, workedAt, boardedOf, unmakeTests, unmakeGate, unmadeOn, earlierTests, replayGateBy, replayGate, replayTests, replayedOn, replayedBoard, Sound}
 use Rattle.squares.proofs.Testing.{both}
 use Rattle.laws.proofs.Cleaning.{Bounded, clean}
 use Rattle.laws.proofs.Facts.{accepts}
-use Rattle.laws.proofs.Retracting.{kindToday, canRetract}
+use Rattle.laws.proofs.Retracting.{kindToday, canRetract, back}
 use Rattle.laws.proofs.Passes.{Passes}
 use Rattle.laws.proofs.Onwards.{kings-on}
-use Rattle.accept.proofs.Saying.{then-number, five-number}
+use Rattle.incremental.proofs.SameMoved.{moved-same}
+use Rattle.accept.proofs.Saying.{then-numbers, then-number, five-number}
 use Rattle.accept.proofs.Numbered.{five-passes, both-accept, test-passes}
-use Rattle.unmake.proofs.Returned.{accepted-can, answer-is, unmade-clean, unmade-five}
+use Rattle.unmake.proofs.Returned.{accepted-can, answer-is, unmade-shown, unmade-clean, unmade-five}
 use Rattle.replay.proofs.Returning.{replayed-shown, replayed-clean, answer-forward, Returns, unmake-replay}
-use Rattle.board.proofs.Saying.{then-numbers}
 use Rattle.board.proofs.Passing.{gate-number, gate-passed}
 
 -- arrays that pass 1 to 5
@@ -65,6 +66,21 @@ passes-by q h =
     let f = five-passes (q .pieces) (q .colors) (q .turn) (rightsOf (q .white) (q .black)) (q .passant) h in
     record { kings = f .kings-pass; pawns = f .pawns-pass; rights = f .rights-pass; state = f .state-pass }
 
+-- boards of the same fields
+laws-one : (x y : RetractableBoard) → toLaws x ≡ toLaws y → x ≡ y
+laws-one x y e =
+    λ i. record {
+      pieces = e i .pieces;
+      colors = e i .colors;
+      combined = e i .combined;
+      turn = e i .turn;
+      white = e i .white;
+      black = e i .black;
+      pinned = e i .pinned;
+      checkers = e i .checkers;
+      passant = e i .passant;
+    }
+
 module _ (b : RetractableBoard) (r : ChessRetraction) (h : gateOf b ≡ Accepted) where
   lawful : accepted (posAt (placedOn b)) ≡ true
   lawful = gate-passed b h .lawful
@@ -80,14 +96,42 @@ module _ (b : RetractableBoard) (r : ChessRetraction) (h : gateOf b ≡ Accepted
         (rightsOf (unmadeFor (posOn b) r .white) (unmadeFor (posOn b) r .black)) (unmadeFor (posOn b) r .passant) ≡ Accepted
     five = unmade-five (placedOn b) r can lawful
 
-    sound-then : Clean (unmadeTo (posOn b) r .position .pieces) (unmadeTo (posOn b) r .position .colors)
-        × (kingsOk (menAt (unmadeTo (posOn b) r .position .pieces) (unmadeTo (posOn b) r .position .colors)) ≡ true)
-    sound-then =
-        subst (λ (u : Unmade). Clean (u .position .pieces) (u .position .colors) × (kingsOk (menAt (u .position .pieces) (u .position .colors)) ≡ true)) (sym is)
-        (unmade-clean (placedOn b) r can, passes-by (unmadeFor (posOn b) r) five .kings)
+    pub source-on : r .source < 64
+    source-on = back (posOn b) r can .can .source-in
 
-  pub unmade-sound : Sound (unmadeTo (posOn b) r)
-  unmade-sound = sound-then
+    kings-there : kingsOk (menAt (unmadeFor (posOn b) r .pieces) (unmadeFor (posOn b) r .colors)) ≡ true
+    kings-there = passes-by (unmadeFor (posOn b) r) five .kings
+
+    -- a board whose sets went back by the Rust's statements
+    module _ (ok : Clean (b .pieces) (b .colors)) (z : RetractableBoard) (e : toLaws z ≡ rustMoved (toLaws b) r) where
+      moved-to : toLaws z ≡ foundStored (boardOf (unmade (posOn b) r)) 0 0
+      moved-to = e ∙ moved-same (toLaws b) r ok (gate-passed b h .union-is) lawful can
+
+      -- its men are clean and have their kings
+      pub moved-sound : Clean (z .pieces) (z .colors) × (kingsOk (menOn z) ≡ true)
+      unfolding foundStored unmadeFor positionOf
+      moved-sound =
+          subst (λ (x : Board). Clean (x .pieces) (x .colors) × (kingsOk (menAt (x .pieces) (x .colors)) ≡ true)) (sym moved-to)
+          (unmade-clean (placedOn b) r can, kings-there)
+
+      -- with checkers and pins worked afresh it is the board before the retraction
+      pub searched-is : (x : RetractableBoard) → toLaws x ≡ foundStored (toLaws z) (checkersOf (menOn z) (z .turn)) (pinsOf (menOn z) (z .turn)) → x ≡ unmadeOn b r
+      unfolding foundStored unmadeFor positionOf
+      searched-is x f =
+          laws-one x (unmadeOn b r)
+          (f
+          ∙ ap (λ (y : Board). foundStored y (checkersOf (menAt (y .pieces) (y .colors)) (y .turn)) (pinsOf (menAt (y .pieces) (y .colors)) (y .turn))) moved-to
+          ∙ ap (λ (m : Men). record {
+            pieces = unmadeFor (posOn b) r .pieces;
+            colors = unmadeFor (posOn b) r .colors;
+            combined = unionOf m;
+            turn = unmadeFor (posOn b) r .turn;
+            white = unmadeFor (posOn b) r .white;
+            black = unmadeFor (posOn b) r .black;
+            pinned = unmadeOn b r .pinned;
+            checkers = unmadeOn b r .checkers;
+            passant = unmadeFor (posOn b) r .passant;
+          }) (sym (ap (λ (q : Pos). q .men) (unmade-shown (placedOn b) r can))))
 
 -- replay answers only a possible move
 did : (p : Pos) (r : ChessRetraction) (k : ℕ) → replayTo p r k .verdict ≡ Accepted → possibleFor p r k ≡ true
@@ -144,15 +188,7 @@ pub replay-number : (b : RetractableBoard) (r : ChessRetraction) (k : ℕ)
     → verdictNumber (andThen (replayGate b) (unless (possibleFor (posOn b) r k) Step Accepted)) ≡ firstFailing (replayTests b r k)
 replay-number b r k = then-number (replayGate b) (earlierTests b) (possibleFor (posOn b) r k) Step (earlier-number b)
 
--- the answer of un-make, and of replay, with what the gate says
-pub unmade-is : (b : RetractableBoard) (r : ChessRetraction) → gateOf b ≡ Accepted → boardedOf (unmadeTo (posOn b) r) ≡ unmadeBoard b r
-unfolding boardedOf
-unmade-is b r h = rw h (go (unmadeTo (posOn b) r .verdict) refl)
-  where
-    go : (v : Verdict) → unmadeTo (posOn b) r .verdict ≡ v → boardedBy v (workedAt (unmadeTo (posOn b) r .position)) ≡ boardedBy v (unmadeOn b r)
-    go Accepted e = ap (λ (u : Unmade). boardedBy Accepted (workedAt (u .position))) (is b r h e)
-    go (Refused w) e = refl
-
+-- the answer of replay, with what the gate says
 pub replayed-is : (b : RetractableBoard) (r : ChessRetraction) (k : ℕ) → replayGate b ≡ Accepted → boardedOf (replayTo (posOn b) r k) ≡ replayedBoard b r k
 unfolding boardedOf replayTo
 replayed-is b r k h = rw h (go (possibleFor (posOn b) r k))
@@ -163,34 +199,23 @@ replayed-is b r k h = rw h (go (possibleFor (posOn b) r k))
     go true = refl
     go false = refl
 
--- the board of un-make
+-- the board before a retraction
 module _ (b : RetractableBoard) (r : ChessRetraction) (ok : Clean (b .pieces) (b .colors)) (h : gateOf b ≡ Accepted) (done : unmadeTo (posOn b) r .verdict ≡ Accepted) where
-  abbrev e : RetractableBoard
-  e = unmadeBoard b r .board
-
-  earlier : e ≡ unmadeOn b r
-  earlier = rw (h, done)
-
   -- "the un-made board fails none of 1 to 5 and 7"
-  pub unmade-passes-on : replayGate e ≡ Accepted
-  unmade-passes-on = ap (λ (x : RetractableBoard). replayGate x) earlier ∙ fresh-worked (unmadeFor (posOn b) r) (five b r h done)
+  pub unmade-passes-on : replayGate (unmadeOn b r) ≡ Accepted
+  unmade-passes-on = fresh-worked (unmadeFor (posOn b) r) (five b r h done)
 
-  back : Returns (placedOn b) (replayTo (posAt (unmadeTo (posOn b) r .position)) r (kindToday (posOn b) r))
-  back = unmake-replay (placedOn b) r ok (accepts (posOn b) (gate-passed b h .lawful) .rights) done
-
-  again : replayTo (posOn e) r (kindToday (posOn b) r) ≡ replayTo (posAt (unmadeTo (posOn b) r .position)) r (kindToday (posOn b) r)
-  again =
-      ap (λ (x : RetractableBoard). replayTo (posOn x) r (kindToday (posOn b) r)) earlier
-      ∙ ap (λ (u : Unmade). replayTo (posAt (u .position)) r (kindToday (posOn b) r)) (sym (is b r h done))
+  returned : Returns (placedOn b) (replayTo (posAt (unmadeTo (posOn b) r .position)) r (kindToday (posOn b) r))
+  returned = unmake-replay (placedOn b) r ok (accepts (posOn b) (gate-passed b h .lawful) .rights) done
 
   -- "replay after un-make gives back every square, the rights and the turn": the whole board but for its state
-  pub replay-gives-back : (st : EnPassantFlag) × (replayedBoard e r (kindToday (posOn b) r) ≡ record { verdict = Accepted; board = withPassant b st })
+  pub replay-gives-back : (st : EnPassantFlag) × (replayedBoard (unmadeOn b r) r (kindToday (posOn b) r) ≡ record { verdict = Accepted; board = withPassant b st })
   unfolding boardedOf
   replay-gives-back = (
     u .position .passant,
-    sym (replayed-is e r (kindToday (posOn b) r) unmade-passes-on)
-        ∙ ap boardedOf again
-        ∙ (λ i. boardedBy (back .verdict-back i) (workedOf (back .pieces-back i) (back .colors-back i) (back .turn-back i) (back .white-back i) (back .black-back i) (u .position .passant)))
+    sym (replayed-is (unmadeOn b r) r (kindToday (posOn b) r) unmade-passes-on)
+        ∙ ap (λ (z : Unmade). boardedOf (replayTo (posAt (z .position)) r (kindToday (posOn b) r))) (sym (is b r h done))
+        ∙ (λ i. boardedBy (returned .verdict-back i) (workedOf (returned .pieces-back i) (returned .colors-back i) (returned .turn-back i) (returned .white-back i) (returned .black-back i) (u .position .passant)))
         ∙ (λ i. record {
           verdict = Accepted;
           board = record {

@@ -1,18 +1,17 @@
 -- What is known of a board that the gate lets pass: its men are clean, the position is accepted, and union, checkers and pins are the Laws'.
-use mathlib.Core.Path.{_≡_, refl}
+use mathlib.Core.Path.{_≡_, refl, ap, _∙_}
 use mathlib.Core.Bool.{true, not}
 use mathlib.Core.List.{List}
-use Prim.Native.Nat.{ℕ, zero, suc, _/_}
+use Prim.Native.Nat.{ℕ, _<_}
 use lib.Dec.{eqb, ltb}
 use lib.ListN.{length}
 use borrow.Author.Tests.{eqb-true}
 use Rattle.squares.specs.Tests.{_and_}
+use Rattle.squares.specs.Squares.{has}
 use Rattle.geometry.specs.declared.Color.{Color}
-use Rattle.geometry.specs.declared.Color.the-variants.{White, Black}
-use Rattle.laws.specs.declared.Piece.the-variants.{Pawn, Knight, Bishop, Rook, Queen, King}
 use Rattle.laws.specs.declared.CastleRights.{CastleRights}
 use Rattle.laws.specs.declared.EnPassantFlag.{EnPassantFlag}
-use Rattle.laws.specs.Men.{Man, empty, man, manNumber}
+use Rattle.laws.specs.Men.{Man, empty, man, isEmpty}
 use Rattle.laws.specs.Attacks.{unionOf, checkersOf, pinsOf}
 use Rattle.laws.specs.Positions.{Rights, rightsOf}
 use Rattle.laws.specs.Acceptance.{kingsOk, pawnsOk, rightsOk, stateOk, quiet, accepted}
@@ -23,13 +22,14 @@ use Rattle.accept.specs.Verdicts.{verdictNumber, unless, andThen, firstOf, thir
 use Rattle.accept.specs.Said.{firstFailing, rawTests}
 use Rattle.board.specs.declared.RetractableBoard.{RetractableBoard}
 use Rattle.board.specs.declared.Boarded.{Boarded}
-use Rattle.board.specs.declared.PieceOn.the-variants.{Kind}
-use Rattle.board.specs.Gate.{menOn, posOn, freshBy, gateBy, gateOf, boardTests}
+use Rattle.board.specs.Gate.{menOn, posOn, toLaws, freshBy, gateBy, gateOf, boardTests}
 use Rattle.board.specs.Said.{Boards}
-use Rattle.board.specs.Answers.{workedOf, newOf, askTests, askGate, kindOn, pieceNumbered, stateTests, stateGate}
+use Rattle.board.specs.Answers.{workedOf, newOf, askTests, askGate, kindOn, kindRead, stateTests, stateGate}
+use Rattle.squares.proofs.Comprehension.{has-setOf}
 use Rattle.squares.proofs.Testing.{both, left, right, agree, agree-eq}
 use Rattle.laws.proofs.Cases.{by-cases}
 use Rattle.laws.proofs.Cleaning.{Bounded, clean}
+use Rattle.incremental.proofs.Ways.{piece-read}
 use Rattle.accept.proofs.Saying.{then-number, judged-number}
 use Rattle.accept.proofs.Numbered.{Five, both-accept, test-passes, judged-passes}
 use Rattle.board.proofs.Saying.{boards-is}
@@ -120,30 +120,13 @@ stale-exactly b =
     (menOk (b .pieces) (b .colors)) (kingsOk (menOn b)) (pawnsOk (menOn b)) (rightsOk (menOn b) (rightsOf (b .white) (b .black))) (stateOk (menOn b) (b .turn) (b .passant)) (quiet (menOn b) (b .turn))
     (freshBy (menOn b) (b .turn) (b .combined) (b .checkers) (b .pinned)))
 
--- the kind by the number of the man
-pub kind-told : (x : Man) → pieceNumbered (manNumber x / 2) ≡ kindOn x
-unfolding pieceNumbered
-kind-told empty = refl
-kind-told (man White Pawn) = refl
-kind-told (man White Knight) = refl
-kind-told (man White Bishop) = refl
-kind-told (man White Rook) = refl
-kind-told (man White Queen) = refl
-kind-told (man White King) = refl
-kind-told (man Black Pawn) = refl
-kind-told (man Black Knight) = refl
-kind-told (man Black Bishop) = refl
-kind-told (man Black Rook) = refl
-kind-told (man Black Queen) = refl
-kind-told (man Black King) = refl
+-- the kind as the sets have it
+pub kind-read : (b : RetractableBoard) (sq : ℕ) → Clean (b .pieces) (b .colors) → gateOf b ≡ Accepted → sq < 64 → kindRead b sq ≡ kindOn (menOn b sq)
+kind-read b sq ok h l = go (menOn b sq) refl
+  where
+    stands : has (b .combined) sq ≡ not (isEmpty (menOn b sq))
+    stands = ap (λ (x : ℕ). has x sq) (gate-passed b h .union-is) ∙ has-setOf (λ k. not (isEmpty (menOn b k))) sq l
 
--- a number above 5 is a king's
-pub king-numbered : (k : ℕ) → (k ≡ 0 → ⊥) → (k ≡ 1 → ⊥) → (k ≡ 2 → ⊥) → (k ≡ 3 → ⊥) → (k ≡ 4 → ⊥) → (k ≡ 5 → ⊥) → Kind King ≡ pieceNumbered k
-unfolding pieceNumbered
-king-numbered zero a b c d e f = absurd (a refl)
-king-numbered (suc zero) a b c d e f = absurd (b refl)
-king-numbered (suc (suc zero)) a b c d e f = absurd (c refl)
-king-numbered (suc (suc (suc zero))) a b c d e f = absurd (d refl)
-king-numbered (suc (suc (suc (suc zero)))) a b c d e f = absurd (e refl)
-king-numbered (suc (suc (suc (suc (suc zero))))) a b c d e f = absurd (f refl)
-king-numbered (suc (suc (suc (suc (suc (suc k)))))) a b c d e f = refl
+    go : (x : Man) → menOn b sq ≡ x → kindRead b sq ≡ kindOn x
+    go empty e = rw (stands, e)
+    go (man c k) e = rw (stands, e, piece-read (toLaws b) sq c k ok l e)

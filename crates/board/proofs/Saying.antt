@@ -2,10 +2,11 @@
 -- answers that say the same are the same.
 use mathlib.Core.Path.{_≡_, refl, sym, ap, _∙_}
 use mathlib.Core.Bool.{Bool, true, false, cond}
-use mathlib.Core.List.{List, _++_}
+use mathlib.Core.List.{List, [], _∷_, _++_}
 use Prim.Native.Nat.{ℕ}
 use native.Mathlib.Omega.{arith}
 use lib.Dec.{eqb}
+use lib.ListN.{getD}
 use borrow.Author.Tests.{eqb-true}
 use Rattle.laws.specs.declared.Piece.{Piece}
 use Rattle.laws.specs.declared.Piece.the-variants.{Pawn, Knight, Bishop, Rook, Queen, King}
@@ -25,23 +26,7 @@ use Rattle.board.specs.declared.Attacked.the-variants.{Yes, No, Refused 
 use Rattle.board.specs.declared.AttackTold.{AttackTold}
 use Rattle.board.specs.Gate.{noBoard, keptBy, boardedBy}
 use Rattle.board.specs.Said.{keptBehind, Boards, Tells, pieceSays, attackedSays}
-use Rattle.board.specs.Answers.{pieceNumbered}
-use Rattle.accept.proofs.Numbered.{never}
-use Rattle.accept.proofs.Saying.{more-tests, number-one, verdict-one, saidBy, behind-by}
-
--- a number of refusal is never 0
-pub some-number : (r : Refusal) → eqb (numberOf r) 0 ≡ false
-some-number r = go (eqb (numberOf r) 0) refl
-  where
-    go : (t : Bool) → eqb (numberOf r) 0 ≡ t → t ≡ false
-    go true e = absurd (never r (verdict-one (Refused r) Accepted (eqb-true _ _ e)))
-    go false e = refl
-
--- tests behind those whose first number a verdict has
-pub then-numbers : (v w : Verdict) (ts us : List Test) → verdictNumber v ≡ firstFailing ts → verdictNumber w ≡ firstFailing us
-    → verdictNumber (andThen v w) ≡ firstFailing (ts ++ us)
-then-numbers Accepted w ts us h k = rw (more-tests ts us, ← h) k
-then-numbers (Refused r) w ts us h k = rw (more-tests ts us, ← h, some-number r)
+use Rattle.accept.proofs.Saying.{some-number, number-one, verdict-one, saidBy, behind-by}
 
 module _ (v : Verdict) (ts : List Test) (b : RetractableBoard) (h : verdictNumber v ≡ firstFailing ts) where
   -- the board beside a verdict
@@ -66,8 +51,11 @@ pub boards-one : {ts : List Test} {b : RetractableBoard} (r q : Boarded) → Boa
 boards-one r q k l = λ i. record { verdict = verdict-one (r .verdict) (q .verdict) (k .number ∙ sym (l .number)) i; board = (k .board ∙ sym (l .board)) i }
 
 -- a kind by its number
-kind-back : (k : Piece) → pieceNumbered (kindNumber k) ≡ Kind k
-unfolding pieceNumbered
+kindBack : ℕ → PieceOn
+kindBack n = getD (Nobody ∷ Kind Pawn ∷ Kind Knight ∷ Kind Bishop ∷ Kind Rook ∷ Kind Queen ∷ Kind King ∷ []) n Nobody
+
+kind-back : (k : Piece) → kindBack (kindNumber k) ≡ Kind k
+unfolding kindBack
 kind-back Pawn = refl
 kind-back Knight = refl
 kind-back Bishop = refl
@@ -76,11 +64,11 @@ kind-back Queen = refl
 kind-back King = refl
 
 pub piece-one : (x y : PieceOn) → pieceSays x ≡ pieceSays y → x ≡ y
-unfolding pieceNumbered
+unfolding kindBack
 piece-one Nobody Nobody h = refl
-piece-one Nobody (Kind k) h = let e : 0 ≡ kindNumber k = cc in ap pieceNumbered e ∙ kind-back k
-piece-one (Kind k) Nobody h = let e : kindNumber k ≡ 0 = cc in sym (kind-back k) ∙ ap pieceNumbered e
-piece-one (Kind k) (Kind l) h = let e : kindNumber k ≡ kindNumber l = cc in sym (kind-back k) ∙ ap pieceNumbered e ∙ kind-back l
+piece-one Nobody (Kind k) h = let e : 0 ≡ kindNumber k = cc in ap kindBack e ∙ kind-back k
+piece-one (Kind k) Nobody h = let e : kindNumber k ≡ 0 = cc in sym (kind-back k) ∙ ap kindBack e
+piece-one (Kind k) (Kind l) h = let e : kindNumber k ≡ kindNumber l = cc in sym (kind-back k) ∙ ap kindBack e ∙ kind-back l
 piece-one (notAsked r) (notAsked q) h = ap notAsked (number-one r q (cc))
 piece-one Nobody (notAsked q) h = let z : _≡_ {A = ℕ} 0 1 = cc in absurd (omega arith)
 piece-one (Kind k) (notAsked q) h = let z : _≡_ {A = ℕ} 0 1 = cc in absurd (omega arith)

@@ -1,10 +1,10 @@
 -- What each method answers, and the tests that it makes.
-use mathlib.Core.Bool.{Bool, true, false}
+use mathlib.Core.Bool.{Bool, true, false, cond}
 use mathlib.Core.List.{List, [], _∷_, _++_}
-use Prim.Native.Nat.{ℕ, zero, suc}
+use Prim.Native.Nat.{ℕ}
 use lib.Dec.{ltb}
+use Rattle.squares.specs.Squares.{has}
 use Rattle.geometry.specs.declared.Color.{Color}
-use Rattle.laws.specs.declared.Piece.the-variants.{Pawn, Knight, Bishop, Rook, Queen, King}
 use Rattle.laws.specs.declared.CastleRights.{CastleRights}
 use Rattle.laws.specs.declared.EnPassantFlag.{EnPassantFlag}
 use Rattle.laws.specs.declared.EnPassantFlag.the-variants.{Any, Some, None}
@@ -18,13 +18,14 @@ use Rattle.accept.specs.declared.Verdict.{Verdict}
 use Rattle.accept.specs.declared.Verdict.the-variants.{Accepted}
 use Rattle.accept.specs.Verdicts.{unless, andThen, judgedOf}
 use Rattle.accept.specs.Said.{Test, _else_}
+use Rattle.incremental.specs.Moved.{pieceOn}
 use Rattle.board.specs.declared.RetractableBoard.{RetractableBoard}
 use Rattle.board.specs.declared.Boarded.{Boarded}
 use Rattle.board.specs.declared.PieceOn.{PieceOn}
 use Rattle.board.specs.declared.PieceOn.the-variants.{Nobody, Kind}
 use Rattle.board.specs.declared.Attacked.{Attacked}
 use Rattle.board.specs.declared.Attacked.the-variants.{Yes, No}
-use Rattle.board.specs.Gate.{menOn, gateOf, boardTests, boardedBy}
+use Rattle.board.specs.Gate.{menOn, toLaws, gateOf, boardTests, boardedBy}
 
 -- a board of raw men, its union, pins and checkers worked out
 abbrev pub workedOf : List ℕ → List ℕ → Color → CastleRights → CastleRights → EnPassantFlag → RetractableBoard
@@ -56,15 +57,9 @@ abbrev pub kindOn : Man → PieceOn
 kindOn empty = Nobody
 kindOn (man c k) = Kind k
 
--- the kind with a number, by which the code has it
-unfoldable pub pieceNumbered : ℕ → PieceOn
-pieceNumbered zero = Nobody
-pieceNumbered (suc zero) = Kind Pawn
-pieceNumbered (suc (suc zero)) = Kind Knight
-pieceNumbered (suc (suc (suc zero))) = Kind Bishop
-pieceNumbered (suc (suc (suc (suc zero)))) = Kind Rook
-pieceNumbered (suc (suc (suc (suc (suc zero))))) = Kind Queen
-pieceNumbered (suc (suc (suc (suc (suc (suc n)))))) = Kind King
+-- the same as board.rs's `piece_on` (195 to 220) reads it from the sets, by which the code has it
+abbrev pub kindRead : RetractableBoard → ℕ → PieceOn
+kindRead b sq = cond (has (b .combined) sq) (Kind (pieceOn (toLaws b) sq)) Nobody
 
 abbrev pub toldBy : Bool → Attacked
 toldBy true = Yes

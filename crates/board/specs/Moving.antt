@@ -46,9 +46,6 @@ unmakeGate b r = andThen (gateOf b) (unmadeTo (posOn b) r .verdict)
 abbrev pub unmadeOn : RetractableBoard → ChessRetraction → RetractableBoard
 unmadeOn b r = workedAt (unmadeFor (posOn b) r)
 
-abbrev pub unmadeBoard : RetractableBoard → ChessRetraction → Boarded
-unmadeBoard b r = boardedBy (unmakeGate b r) (unmadeOn b r)
-
 -- "Replay .. tests 1 to 5 and 7, not 6"
 abbrev pub earlierTests : RetractableBoard → List Test
 earlierTests b =

@@ -13,9 +13,10 @@ ghost use Rattle.laws.specs.Positions.{rightsOf};
 ghost use Rattle.accept.specs.Said.{rawTests};
 ghost use Rattle.board.specs.Gate.{menOn, posOn, boardTests, noBoard};
 ghost use Rattle.board.specs.Said.{Boards, Tells, pieceSays, attackedSays};
-ghost use Rattle.board.specs.Answers.{workedOf, askTests, kindOn, pieceNumbered, toldBy, stateTests, withPassant, uncertain};
+ghost use Rattle.board.specs.Answers.{workedOf, askTests, kindOn, kindRead, toldBy, stateTests, withPassant, uncertain};
 ghost use Rattle.board.specs.Moving.{unmakeTests, unmadeOn, replayTests, replayedOn};
 
+mod back; // back.rt: how the board's own sets go back
 pub mod inner; // inner.rt: the gate over a lent table
 
 // Six sets by kind and two by colour; the worked-out union, pins and checkers; the turn, each colour's rights and the en passant state.
@@ -120,9 +121,7 @@ impl RetractableBoard {
                 board: self,
             },
             Verdict::Accepted => {
-                let pieces = self.pieces;
-                let colors = self.colors;
-                let answer = kind_numbered(men::inner::man_at(pieces, colors, sq) / 2);
+                let answer = kind_on(self, sq);
                 PieceTold {
                     answer,
                     board: self,
@@ -182,9 +181,14 @@ impl RetractableBoard {
         ensures { λ z. ⌜ Boards (boardTests self ++ unmakeTests (posOn self) r) (unmadeOn self r) z ⌝ }
     {
         let t = tables::between_table();
-        let z = inner::moving::unmade(&t, self, r);
-        self = z.board;
-        Boarded { board: self, ..z }
+        let v = inner::moving::unmake_gate(&t, self, r);
+        match v {
+            Verdict::Refused(w) => inner::board_by(Verdict::Refused(w), no_board()),
+            Verdict::Accepted => {
+                self = self.unmade(&t, r);
+                inner::board_by(v, self)
+            }
+        }
     }
 
     // The board after the move of a retraction: refusals 1 to 5 and 7, then 12. `kind` is that promoted to, 0 where none is.
@@ -215,17 +219,12 @@ fn told(yes: bool) -> Attacked
     if yes { Attacked::Yes } else { Attacked::No }
 }
 
-// The kind with a number; 0 is nobody's.
-fn kind_numbered(k: u8) -> PieceOn
-    ensures { λ r. ⌜ r ≡ pieceNumbered k ⌝ }
+// Who stands on a square, as board.rs's `piece_on` reads the sets.
+fn kind_on(b: RetractableBoard, sq: u8) -> PieceOn
+    ensures { λ r. ⌜ r ≡ kindRead b sq ⌝ }
 {
-    match k {
-        0 => PieceOn::Nobody,
-        1 => PieceOn::Kind(Piece::Pawn),
-        2 => PieceOn::Kind(Piece::Knight),
-        3 => PieceOn::Kind(Piece::Bishop),
-        4 => PieceOn::Kind(Piece::Rook),
-        5 => PieceOn::Kind(Piece::Queen),
-        _ => PieceOn::Kind(Piece::King),
+    if squares::has(b.combined, sq) {
+        return PieceOn::Kind(back::piece_at(b, sq));
     }
+    PieceOn::Nobody
 }

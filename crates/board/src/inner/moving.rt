@@ -1,4 +1,4 @@
-// Un-make and replay of a board, over a lent table of squares between.
+// What un-make refuses, and replay of a board, over a lent table of squares between.
 use super::super::Boarded;
 use super::super::RetractableBoard;
 use accept::Verdict;
@@ -7,7 +7,7 @@ use placing::Position;
 use unmake::Unmade;
 ghost use mathlib.Core.Path.{_≡_};
 ghost use Rattle.geometry.specs.Lines.{IsBetween};
-ghost use Rattle.board.specs.Moving.{placedOn, boardedOf, unmadeBoard, replayGate, replayedBoard, Sound};
+ghost use Rattle.board.specs.Moving.{placedOn, boardedOf, unmakeGate, replayGate, replayedBoard, Sound};
 
 // A board's fields without the worked-out ones.
 pub fn placed(b: RetractableBoard) -> Position
@@ -60,18 +60,18 @@ pub fn replay_gate(t: &[u64; 4096], b: RetractableBoard) -> Verdict
     super::stale_after(t, v, pieces, colors, turn, b.combined, b.checkers, b.pinned)
 }
 
-// Un-make: refusals 1 to 7 and 9 to 12, or the earlier board.
-pub fn unmade(t: &[u64; 4096], b: RetractableBoard, r: ChessRetraction) -> Boarded
+// What un-make refuses: 1 to 7, then 9 to 12 of the position.
+pub fn unmake_gate(t: &[u64; 4096], b: RetractableBoard, r: ChessRetraction) -> Verdict
     requires { ⌜ IsBetween (now t) ⌝ }
-    ensures { λ z. ⌜ z ≡ unmadeBoard b r ⌝ }
+    ensures { λ v. ⌜ v ≡ unmakeGate b r ⌝ }
 {
     let v = super::gate(t, b);
     match v {
-        Verdict::Refused(w) => super::board_by(Verdict::Refused(w), super::super::no_board()),
+        Verdict::Refused(w) => Verdict::Refused(w),
         Verdict::Accepted => {
             let p = placed(b);
             let u = unmake::inner::unmake(t, p, r);
-            boarded(t, u)
+            u.verdict
         }
     }
 }
