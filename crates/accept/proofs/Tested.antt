@@ -8,7 +8,7 @@ use lib.Dec.{eqb}
 use borrow.Author.Tests.{eqb-true, eq-eqb}
 use Rattle.accept.specs.declared.Refusal.{Refusal}
 use Rattle.accept.specs.Verdicts.{numberOf}
-use Rattle.accept.specs.Said.{Test, _else_, firstFailing, Said, says, behind}
+use Rattle.accept.specs.Said.{Test, _else_, firstFailing, Said, says, numberSaid, behind}
 use Rattle.accept.proofs.Saying.{some-number, more-tests}
 
 module _ (ts : List Test) where
@@ -53,6 +53,15 @@ module _ (ts : List Test) where
             ≡ cond t (cond (eqb (firstFailing us) 0) x (says (firstFailing us) [])) (says (firstFailing ts) [])
         go true e = refl
         go false e = rw e
+
+-- the number of what is said behind tests
+pub number-behind : (ts us : List Test) → firstFailing (ts ++ us) ≡ numberSaid (behind ts (says (firstFailing us) []))
+unfolding behind
+number-behind ts us = more-tests ts us ∙ go (eqb (firstFailing ts) 0)
+  where
+    go : (t : Bool) → cond t (firstFailing us) (firstFailing ts) ≡ numberSaid (cond t (says (firstFailing us) []) (says (firstFailing ts) []))
+    go true = refl
+    go false = refl
 
 -- a last test
 pub last-passes : (t : Bool) (r : Refusal) → firstFailing ((t else r) ∷ []) ≡ 0 → t ≡ true

@@ -26,6 +26,10 @@ no-value e = absurd (omega (arith, ap (λ (x : Said). length (valuesSaid x)) e))
 pub no-room : {A : Type 0} {m n : ℕ} → _≡_ {A = Said} (told (m ∷ [])) (says (numberOf room) (n ∷ [])) → A
 no-room e = absurd (omega (arith, ap numberSaid e))
 
+-- 1 is not 0, where they answer a question
+pub no-both : {A : Type 0} → _≡_ {A = Said} (told (1 ∷ [])) (told (0 ∷ [])) → A
+no-both e = absurd (omega (arith, (let w : _≡_ {A = ℕ} 1 0 = cc in w)))
+
 -- where the length is told: it has no room, or it was written
 module _ {t o : List ℕ} (n : ℕ) (e : n ≡ length t) where
   pub writes-roomless : length o < n → Writes [] t o (says (numberOf room) (n ∷ [])) o

@@ -3,7 +3,6 @@ use mathlib.Core.Path.{_≡_, refl, sym, ap, _∙_}
 use mathlib.Core.Bool.{Bool, true, false, cond}
 use mathlib.Core.List.{List, [], _∷_}
 use Prim.Native.Nat.{ℕ}
-use native.Mathlib.Omega.{arith}
 use lib.Dec.{leb}
 use lib.ListN.{length}
 use Rattle.geometry.specs.declared.Color.{Color}
@@ -12,7 +11,7 @@ use Rattle.accept.specs.declared.Refusal.{Refusal}
 use Rattle.accept.specs.declared.Refusal.the-variants.{Full}
 use Rattle.accept.specs.declared.Verdict.{Verdict}
 use Rattle.accept.specs.declared.Verdict.the-variants.{Accepted, Refused as refused}
-use Rattle.accept.specs.Said.{_else_, firstFailing, Said, numberSaid, told, refusal, behind}
+use Rattle.accept.specs.Said.{_else_, firstFailing, Said, told, refusal, behind}
 use Rattle.board.specs.declared.RetractableBoard.{RetractableBoard}
 use Rattle.board.specs.Gate.{gateOf, boardTests}
 use Rattle.roll.specs.declared.RetractionList.{RetractionList}
@@ -27,7 +26,7 @@ use Rattle.limited.specs.declared.Limited.{Limited}
 use Rattle.limited.specs.declared.Limited.the-variants.{Yes, No, Refused}
 use Rattle.limited.specs.Limiting.{limitedSays, isNone, officersOn, nothingOn, sideOf, limitedFrom, limitedOf}
 use Rattle.accept.proofs.Saying.{behind-by}
-use Rattle.accept.proofs.Writing.{no-value}
+use Rattle.accept.proofs.Writing.{no-value, no-both}
 use Rattle.board.proofs.Numbers.{gate-refuses, gate-passes}
 use Rattle.retraction_gen.proofs.Filled.{held-is, full-fails, held-passes}
 
@@ -61,9 +60,6 @@ orElse Yes x = told (1 ∷ [])
 orElse (Refused why) x = refusal why
 orElse No x = x
 
-no-one : {A : Type 0} → _≡_ {A = Said} (told (1 ∷ [])) (told (0 ∷ [])) → A
-no-one e = absurd (omega (arith, (let w : _≡_ {A = ℕ} 1 0 = cc in w)))
-
 sides-by : (fits none : Bool) (x : Said) (r : Limited) → limitedSays r ≡ behind ((fits else Full) ∷ []) (cond none (told (1 ∷ [])) (told (0 ∷ [])))
     → orElse r x ≡ behind ((fits else Full) ∷ []) (cond none (told (1 ∷ [])) x)
 unfolding behind firstFailing
@@ -71,9 +67,9 @@ sides-by false none x Yes e = no-value e
 sides-by false none x No e = no-value e
 sides-by false none x (Refused why) e = e
 sides-by true true x Yes e = refl
-sides-by true true x No e = no-one (sym e)
+sides-by true true x No e = no-both (sym e)
 sides-by true true x (Refused why) e = no-value (sym e)
-sides-by true false x Yes e = no-one e
+sides-by true false x Yes e = no-both e
 sides-by true false x No e = refl
 sides-by true false x (Refused why) e = no-value (sym e)
 

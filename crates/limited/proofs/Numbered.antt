@@ -1,8 +1,7 @@
 -- 8, exactly when: of whatever answer the promise of `is_limited_in_retractions` allows; and any two answers agree.
 use mathlib.Core.Path.{_≡_, refl, sym, ap, _∙_}
-use mathlib.Core.Bool.{Bool, true, false, not, cond}
+use mathlib.Core.Bool.{Bool, not, cond}
 use mathlib.Core.List.{[], _∷_}
-use Prim.Native.Nat.{ℕ}
 use native.Mathlib.Omega.{arith}
 use lib.Dec.{eqb, leb}
 use lib.ListN.{length}
@@ -19,7 +18,7 @@ use Rattle.limited.specs.Limiting.{limitedSays, isNamed, officersOn, not
 use Rattle.squares.proofs.Testing.{agree, agree-eq}
 use Rattle.laws.proofs.Cases.{by-cases}
 use Rattle.accept.proofs.Saying.{number-one}
-use Rattle.accept.proofs.Writing.{no-value}
+use Rattle.accept.proofs.Writing.{no-value, no-both}
 use Rattle.board.proofs.Numbers.{above-seven}
 
 -- what is said behind 1 to 7: at once; the first list fits, and has nothing; the second fits, and has nothing
@@ -56,9 +55,9 @@ module _ (b : RetractableBoard) (r : Limited) (h : limitedSays r ≡ limitedOf b
 -- what is said settles the answer
 limited-one : (r q : Limited) → limitedSays r ≡ limitedSays q → r ≡ q
 limited-one Yes Yes e = refl
-limited-one Yes No e = absurd (omega (arith, (let w : _≡_ {A = ℕ} 1 0 = cc in w)))
+limited-one Yes No e = no-both e
 limited-one Yes (Refused w) e = no-value e
-limited-one No Yes e = absurd (omega (arith, (let w : _≡_ {A = ℕ} 0 1 = cc in w)))
+limited-one No Yes e = no-both (sym e)
 limited-one No No e = refl
 limited-one No (Refused w) e = no-value e
 limited-one (Refused v) Yes e = no-value (sym e)

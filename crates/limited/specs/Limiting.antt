@@ -1,7 +1,6 @@
 -- `is_limited_in_retractions` (retraction_gen.rs, 280 to 333).
 use mathlib.Core.Bool.{Bool, true, false, not, cond}
 use mathlib.Core.List.{List, [], _∷_}
-use Prim.Native.Nat.{ℕ}
 use lib.Dec.{eqb}
 use Rattle.squares.specs.Tests.{_or_}
 use Rattle.geometry.specs.declared.Color.{Color}

@@ -18,7 +18,7 @@ unfolding fullList holding
 flag-of es true = refl
 flag-of es false = refl
 
-pub over-is : (es : List SourceAndTargets) (l : RetractionList) → l ≡ answerOf es → ltb 47 (length es) ≡ l .full
+over-is : (es : List SourceAndTargets) (l : RetractionList) → l ≡ answerOf es → ltb 47 (length es) ≡ l .full
 unfolding answerOf
 over-is es l e = sym (flag-of es (ltb 47 (length es))) ∙ ap (λ (r : RetractionList). r .full) (sym e)
 

@@ -7,3 +7,4 @@ pub mod Sources
 pub mod Remaining
 pub mod Sourced
 pub mod Whole
+pub mod Numbered

@@ -1,8 +1,6 @@
 -- What `next` promises, from what its definition hands back; and any two answers agree.
 use mathlib.Core.Path.{_≡_, refl, sym, ap, _∙_}
 use mathlib.Core.Bool.{Bool, true, false}
-use mathlib.Core.List.{[], _∷_}
-use Prim.Native.Nat.{ℕ}
 use native.Mathlib.Omega.{arith}
 use Rattle.squares.specs.Squares.{flag}
 use Rattle.laws.specs.declared.ChessRetraction.{ChessRetraction}
@@ -10,7 +8,7 @@ use Rattle.retraction_gen.specs.declared.RetractionGen.{RetractionGen}
 use Rattle.retraction_gen.specs.declared.Next.{Next}
 use Rattle.retraction_gen.specs.declared.Next.the-variants.{Retraction, End}
 use Rattle.retraction_gen.specs.declared.Stepped.{Stepped}
-use Rattle.retraction_gen.specs.Cursors.{retractionSaid, endSaid, nextSays, Answered, back, nextOf, Steps}
+use Rattle.retraction_gen.specs.Cursors.{retractionSaid, nextSays, Answered, back, nextOf, Steps}
 use Rattle.accept.proofs.Writing.{no-value}
 
 pub steps : (g h : RetractionGen) (a : Next) → nextOf g ≡ back h (nextSays a) → Steps g (record { cursor = h; next = a })

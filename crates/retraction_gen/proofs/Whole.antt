@@ -9,12 +9,10 @@ use lib.Dec.{leb, ltb, lit<}
 use lib.ListN.{length, getD, set, take, replicate}
 use borrow.Author.Tests.{leb-true, le-leb, ltb-false, ltb-true, leb-false}
 use Rattle.squares.specs.Tests.{_and_}
-use Rattle.accept.specs.declared.Refusal.the-variants.{Full}
 use Rattle.accept.specs.declared.Verdict.the-variants.{Accepted}
 use Rattle.accept.specs.Verdicts.{verdictNumber}
 use Rattle.accept.specs.Said.{firstFailing}
 use Rattle.board.specs.declared.RetractableBoard.{RetractableBoard}
-use Rattle.board.specs.Gate.{boardTests}
 use Rattle.laws.specs.declared.ChessRetraction.{ChessRetraction}
 use Rattle.laws.specs.Retractions.{InRange}
 use Rattle.roll.specs.declared.SourceAndTargets.{SourceAndTargets}
@@ -23,14 +21,15 @@ use Rattle.retraction_gen.specs.declared.RetractionGen.{RetractionGen}
 use Rattle.retraction_gen.specs.declared.Made.{Made}
 use Rattle.retraction_gen.specs.declared.Turn.{Turn}
 use Rattle.retraction_gen.specs.declared.Turn.the-variants.{Again, Found, Over}
-use Rattle.retraction_gen.specs.Making.{listOn, masksOn, startOf, fullTest, listTests, cursorOn, noCursor, Makes}
+use Rattle.retraction_gen.specs.Making.{listOn, masksOn, startOf, listTests, cursorOn, noCursor, Makes}
 use Rattle.retraction_gen.specs.Cursors.{withIndex, withUncaptured, turned, retractionSaid, endSaid, Answered, back, entryAt, lowestOf, lessened, spent, passing, barred, passedTo, uncapturedTo, turnIn, onEntry, turnOf, fuel, stepOf, sound, wellFormed, nextOf}
 use Rattle.retraction_gen.specs.Sequence.{sequenceOf, sequenceOn, Yields}
 use Rattle.retraction_gen.specs.Rest.{restIn, windowOf, restOf}
 use Rattle.retraction_gen.proofs.Going.{on-len, again-less, turn-less, step-again, step-found, step-over}
 use Rattle.squares.proofs.Testing.{both, left, right}
 use Rattle.retraction_gen.proofs.Remaining.{found, turn-gives, rest-sequence}
-use Rattle.accept.proofs.Tested.{beside-none, none-fails, last-passes}
+use Rattle.accept.proofs.Tested.{beside-none}
+use Rattle.retraction_gen.proofs.Gated.{list-passed}
 use Rattle.retraction_gen.proofs.Sourced.{list-sound}
 
 -- a turn keeps a cursor well formed
@@ -150,7 +149,7 @@ module _ (b : RetractableBoard) (m : Made) (k : Makes (listTests b) (cursorOn b)
   made-start = k .cursor ∙ sym (beside-none (listTests b) (cursorOn b) noCursor none-failed)
 
   pub made-fits : length (listOn b) ≤ 47
-  made-fits = leb-true (length (listOn b)) 47 (last-passes (leb (length (listOn b)) 47) Full (none-fails (boardTests b) (fullTest (listOn b)) none-failed .1))
+  made-fits = list-passed b none-failed .1
 
   -- "a cursor that yields its first retraction and then pretends to be at the end" is shut out
   pub whole-sequence : Yields (m .cursor) (sequenceOn b)

@@ -18,7 +18,7 @@ use Rattle.laws.specs.Boards.{Board, acceptedBoard, BoardPast}
 use Rattle.accept.specs.declared.Refusal.{Refusal}
 use Rattle.accept.specs.declared.Verdict.the-variants.{Accepted, Refused}
 use Rattle.accept.specs.Verdicts.{numberOf, thirdOf, fiveOf, judgedOf}
-use Rattle.accept.specs.Said.{firstFailing, Said, told, Writes}
+use Rattle.accept.specs.Said.{firstFailing, told, Writes}
 use Rattle.board.specs.declared.RetractableBoard.{RetractableBoard}
 use Rattle.board.specs.Gate.{posOn, toLaws, freshBy, gateBy, gateOf, boardTests}
 use Rattle.listing.specs.declared.Listed.{Listed}
@@ -34,7 +34,7 @@ use Rattle.laws.proofs.StrictMembers.{placed-place, strict-in, strict-order, st
 use Rattle.laws.proofs.BoardPasts.{demand3}
 use Rattle.accept.proofs.Numbered.{never}
 use Rattle.accept.proofs.Saying.{behind-by}
-use Rattle.accept.proofs.Writing.{writes-behind, writes-refused}
+use Rattle.accept.proofs.Writing.{no-both, writes-behind, writes-refused}
 use Rattle.board.proofs.Passing.{Passed, gate-passed}
 use Rattle.board.proofs.Numbers.{gate-refuses, gate-passes}
 use Rattle.strict.proofs.Unique.{among-cases}
@@ -150,19 +150,16 @@ module _ (b : RetractableBoard) (h : gateOf b ≡ Accepted) (j : ℕ) (x : Next 
   answers-some l = record {
     number = zero-said;
     exists = λ _. ((λ _. (placed j, past)), (λ _. refl));
-    none = λ _. ((λ e. absurd (apart e)), (λ f. absurd (f (placed j) past)));
+    none = λ _. ((λ e. no-both e), (λ f. absurd (f (placed j) past)));
   }
     where
       past : Past b (placed j)
       past = whole _ (one-more _ _ _ x l) .members (placed j) .0 first
 
-      apart : _≡_ {A = Said} (told (1 ∷ [])) (told (0 ∷ [])) → ⊥
-      apart z = omega (arith, (let w : _≡_ {A = ℕ} 1 0 = cc in w))
-
   pub answers-none : 49152 ≤ j → Answers b NoLastMove
   answers-none f = record {
     number = zero-said;
-    exists = λ _. ((λ e. absurd (apart e)), (λ q. absurd (no-past (q .0) (q .1))));
+    exists = λ _. ((λ e. no-both (sym e)), (λ q. absurd (no-past (q .0) (q .1))));
     none = λ _. ((λ _. no-past), (λ _. refl));
   }
     where
@@ -171,9 +168,6 @@ module _ (b : RetractableBoard) (h : gateOf b ≡ Accepted) (j : ℕ) (x : Next 
 
       no-past : (q : ChessRetraction) → Past b q → ⊥
       no-past q z = elim (whole [] (at-end _ _ _ x (end (x .skips .most) f)) .members q .1 z) [ ]
-
-      apart : _≡_ {A = Said} (told (0 ∷ [])) (told (1 ∷ [])) → ⊥
-      apart z = omega (arith, (let w : _≡_ {A = ℕ} 0 1 = cc in w))
 
 -- the answers behind the gate
 module _ (b : RetractableBoard) where
