@@ -37,10 +37,10 @@ module _ {t o : List ℕ} (n : ℕ) (e : n ≡ length t) where
   writes-whole h k = record { answer = rw (← e, le-leb n (length o) h); holds = k }
 
 module _ {ts : List Test} {t o : List ℕ} where
-  -- behind tests that all pass, and behind one that fails
-  pub writes-behind : {x : Said} {after : List ℕ} → firstFailing ts ≡ 0 → Writes [] t o x after → Writes ts t o x after
-  unfolding behind firstFailing
-  writes-behind h k = record { answer = rw h (k .answer); holds = k .holds }
+  -- the tests count by the first that fails
+  pub writes-same : {x : Said} {after : List ℕ} (us : List Test) → firstFailing ts ≡ firstFailing us → Writes ts t o x after → Writes us t o x after
+  unfolding behind
+  writes-same us h k = record { answer = rw h at (k .answer); holds = k .holds }
 
   pub writes-refused : (why : Refusal) → numberOf why ≡ firstFailing ts → Writes ts t o (refusal why) o
   writes-refused why h = record { answer = behind-by (Refused why) ts (fitting (length t) (length o)) h; holds = rw (some-number why) }
@@ -53,6 +53,15 @@ module _ {ts : List Test} {t o : List ℕ} where
       go : (b : Bool) → eqb (firstFailing ts) 0 ≡ b → Writes ts u o x after
       go true e = subst (λ (q : List ℕ). Writes ts q o x after) (f (eqb-true (firstFailing ts) 0 e)) w
       go false e = let d : x ≡ says (firstFailing ts) [] = w .answer ∙ rw e in record { answer = d ∙ rw e; holds = w .holds ∙ rw (d, e) }
+
+-- behind tests that all pass
+pub writes-behind : {ts : List Test} {t o after : List ℕ} {x : Said} → firstFailing ts ≡ 0 → Writes [] t o x after → Writes ts t o x after
+unfolding firstFailing
+writes-behind {ts} h k = writes-same ts (sym h) k
+
+pub writes-passed : {ts : List Test} {t o after : List ℕ} {x : Said} → firstFailing ts ≡ 0 → Writes ts t o x after → Writes [] t o x after
+unfolding firstFailing
+writes-passed h k = writes-same [] h k
 
 -- any two answers, and any two contents of the slice, agree
 pub writes-one : {ts : List Test} {t o p q : List ℕ} {x y : Said} → Writes ts t o x p → Writes ts t o y q → (x ≡ y) × (p ≡ q)

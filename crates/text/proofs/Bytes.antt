@@ -1,7 +1,7 @@
 -- Bytes copied into a slice, and compared with one.
 use mathlib.Core.Path.{_≡_, refl, sym, _∙_, ap}
 use mathlib.Core.Bool.{Bool, true, false, cond}
-use mathlib.Core.List.{List, _++_}
+use mathlib.Core.List.{List, [], _++_}
 use Prim.Native.Nat.{ℕ, suc, _+_, _≤_, _<_}
 use native.Mathlib.Omega.{arith}
 use native.Mathlib.Numerals.{add-one}
@@ -9,8 +9,10 @@ use lib.Dec.{ltb}
 use lib.ListN.{length, getD, take, drop, set}
 use lib.Seq.{drop-cons, take-suc, ext-getD, getD-take, length-take-le, set-at, append-snoc}
 use borrow.Author.Tests.{lt-ltb, le-ltb, ltb-false}
+use Rattle.accept.specs.Said.{Writes}
 use Rattle.text.specs.declared.Copied.the-variants.{Count, Room}
-use Rattle.text.specs.Copies.{SameAs, copiedOf, outOf}
+use Rattle.text.specs.Copies.{copiedSays, SameAs}
+use Rattle.accept.proofs.Writing.{writes-roomless, writes-whole}
 
 -- one more byte is copied into the front of o
 pub copy-more : (b o : List ℕ) (i : ℕ) → i < length b → i < length o → set (take i b ++ drop i o) i (getD b i 0) ≡ take (i + 1) b ++ drop (i + 1) o
@@ -30,17 +32,18 @@ module _ (b o : List ℕ) (n w : ℕ) (fit : n ≤ length b) (said : w ≡ cond 
       go true e = let z : w ≡ 0 = (rw e at said) in (omega arith, omega arith)
       go false e = let z : w ≡ n = (rw e at said) in (omega arith, omega (arith, ltb-false (length o) n e))
 
-  pub room : length o < n → (Room n ≡ copiedOf (take n b) o) × (take w b ++ drop w o ≡ outOf (take n b) o)
-  room h =
+  pub room : {x : List ℕ} → length o < n → x ≡ take w b ++ drop w o → Writes [] (take n b) o (copiedSays (Room n)) x
+  room h e =
       let k : ltb (length o) n ≡ true = lt-ltb (length o) n h in
       let z : w ≡ 0 = (rw k at said) in
-      (simp (long, k), simp (long, k, z))
+      let d : _ ≡ o = e ∙ simp z in
+      rw d (writes-roomless n (sym long) h)
 
-  pub all : n ≤ length o → (Count n ≡ copiedOf (take n b) o) × (take w b ++ drop w o ≡ outOf (take n b) o)
-  all h =
+  pub all : {x : List ℕ} → n ≤ length o → x ≡ take w b ++ drop w o → Writes [] (take n b) o (copiedSays (Count n)) x
+  all h e =
       let k : ltb (length o) n ≡ false = le-ltb (length o) n h in
       let z : w ≡ n = (rw k at said) in
-      (simp (long, k), simp (long, k, z))
+      writes-whole n (sym long) h (e ∙ simp (long, z))
 
 -- two texts byte by byte
 pub same-yes : (b t : List ℕ) (n : ℕ) → n ≤ length b → length t ≡ n → ((k : ℕ) → k < n → getD b k 0 ≡ getD t k 0) → take n b ≡ t

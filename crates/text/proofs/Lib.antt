@@ -4,3 +4,4 @@ pub mod Walks
 pub mod Inverse
 pub mod Words
 pub mod RoundTrip
+pub mod Printing

@@ -10,14 +10,15 @@ use laws::EnPassantFlag;
 use placement::inner::push;
 ghost use mathlib.Core.Path.{_≡_};
 ghost use mathlib.Core.Bool.{cond};
-ghost use mathlib.Core.List.{_++_};
+ghost use mathlib.Core.List.{[], _++_};
 ghost use Prim.Native.Nat.{_≤_};
 ghost use lib.Dec.{ltb};
 ghost use lib.ListN.{length, take, drop};
 ghost use Rattle.laws.specs.Boards.{menAt};
+ghost use Rattle.accept.specs.Said.{Writes};
 ghost use Rattle.placement.specs.Lines.{textOf, Added, Holds};
 ghost use Rattle.text.specs.Form.{turnByte, sideText, rightsText, stateText, tailText, printOf, Answers};
-ghost use Rattle.text.specs.Copies.{SameAs, copiedOf, outOf};
+ghost use Rattle.text.specs.Copies.{copiedSays, SameAs};
 ghost use Rattle.text.specs.Reading.{rightOf, squareOf, stepMen, stepTail, stepOf, startOf, runOf, turnOf, sideOf, flagOf, rawOf, noRaw};
 
 fn turn_byte(c: Color) -> u8
@@ -121,7 +122,7 @@ fn written(have: usize, n: usize) -> usize
 // A line into a lent slice, whole or not at all.
 pub fn copy(line: Line, out: &mut [u8]) -> Copied
     requires { ⌜ line .len ≤ 81 ⌝ }
-    ensures { λ r. ⌜ (r ≡ copiedOf (textOf line) (now (out .entry))) × (now (out .exit) ≡ outOf (textOf line) (now (out .entry))) ⌝ }
+    ensures { λ r. ⌜ Writes [] (textOf line) (now (out .entry)) (copiedSays r) (now (out .exit)) ⌝ }
 {
     let n = line.len;
     let bytes = line.bytes;

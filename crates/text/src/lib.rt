@@ -7,7 +7,10 @@ use laws::CastleRights;
 use laws::EnPassantFlag;
 pub use placement::Line;
 ghost use mathlib.Core.Path.{_≡_};
-ghost use Rattle.text.specs.Entries.{Reads, toldOf, printedOf, leftOf};
+ghost use Rattle.accept.specs.Said.{Writes};
+ghost use Rattle.board.specs.Gate.{boardTests};
+ghost use Rattle.text.specs.Copies.{copiedSays};
+ghost use Rattle.text.specs.Entries.{Reads, textOn, printedSays};
 
 pub mod inner; // inner.rt: the printer, the reader, and the copy into a lent slice
 
@@ -76,7 +79,7 @@ pub fn read(text: &[u8]) -> Boarded
 
 // The text of a board, into a lent slice: refusals 1 to 7, then 13. Only a whole text is written.
 pub fn print(b: RetractableBoard, out: &mut [u8]) -> Printed
-    ensures { λ r. ⌜ (r ≡ printedOf b (now (out .entry))) × (now (out .exit) ≡ leftOf b (now (out .entry))) ⌝ }
+    ensures { λ r. ⌜ Writes (boardTests b) (textOn b) (now (out .entry)) (printedSays r) (now (out .exit)) ⌝ }
 {
     let t = tables::between_table();
     let v = board::inner::gate(&t, b);
@@ -96,7 +99,7 @@ pub fn print(b: RetractableBoard, out: &mut [u8]) -> Printed
 }
 
 fn told(c: Copied) -> Printed
-    ensures { λ r. ⌜ r ≡ toldOf c ⌝ }
+    ensures { λ r. ⌜ printedSays r ≡ copiedSays c ⌝ }
 {
     match c {
         Copied::Count(n) => Printed::Count(n),

@@ -1,6 +1,6 @@
 -- `text::print` meets its contract.
 use borrow.Author.Needs.{needs}
-use Rattle.text.proofs.RoundTrip.{not-printed, printed-so}
+use Rattle.text.proofs.Printing.{not-printed, printed-so}
 use Rattle.text.proofs.print.Statement.{statement}
 use Rattle.text.proofs.print.Tie as tie
 
@@ -26,13 +26,13 @@ told-requires : tie.Need-told-requires
 told-requires c κs = search needs
 
 returns : tie.Need-returns
-returns c = not-printed _ _ _ _ (c .before .before .before .gate .ensures) (c .before .v .given .1)
+returns c = not-printed _ _ (c .before .before .before .gate .ensures) (c .before .v .given .0 .0) (c .before .v .given .1)
 
 same-length : tie.Need-same-length
 same-length c = search needs
 
 returns-2 : tie.Need-returns-2
-returns-2 c = printed-so _ _ _ _ _ _ _ (c .before .before .before .before .before .before .before .before .before .before .gate .ensures) (c .before .before .before .before .before .before .before .before .enum-told .given .1) (c .before .before .before .before .before .line-of .ensures .0 .text) (c .before .before .before .copy .ensures .0) (c .before .before .before .copy .ensures .1) (c .told .ensures)
+returns-2 c = printed-so _ _ (c .before .before .before .before .before .before .before .before .before .before .gate .ensures) _ (c .before .before .before .copy .result) (c .told .result) (c .before .before .before .before .before .before .before .before .enum-told .given .1) (c .before .before .before .before .before .line-of .ensures .0 .text) (c .before .before .before .copy .ensures) (c .told .ensures)
 
 pub print-spec : {M : Type 1} → statement M
 print-spec =

@@ -1,6 +1,5 @@
 -- `text::read` meets its contract.
 use borrow.Author.Needs.{needs}
-use Rattle.board.proofs.Passing.{new-is}
 use Rattle.text.proofs.RoundTrip.{read-in, read-out}
 use Rattle.text.proofs.read.Statement.{statement}
 use Rattle.text.proofs.read.Tie as tie
@@ -27,7 +26,7 @@ returns : tie.Need-returns
 returns c = read-out _ _ _ (c .before .before .before .before .read-raw .ensures) (c .before .before .enum-told .given .1) (c .board-by .ensures)
 
 returns-2 : tie.Need-returns-2
-returns-2 c = read-in _ _ _ (c .before .before .before .before .before .read-raw .ensures) (c .before .before .before .enum-told2 .given .1) (new-is _ _ _ _ _ _ _ (c .new .ensures))
+returns-2 c = read-in _ _ _ (c .before .before .before .before .before .read-raw .ensures) (c .before .before .before .enum-told2 .given .1) (c .new .ensures)
 
 pub read-spec : {M : Type 1} → statement M
 read-spec =

@@ -1,5 +1,5 @@
 -- `text::inner::copy` meets its contract.
-use mathlib.Core.Path.{_≡_, _∙_}
+use mathlib.Core.Path.{_≡_}
 use Prim.Native.Nat.{_≤_}
 use native.Mathlib.Omega.{arith}
 use lib.ListN.{length}
@@ -24,8 +24,7 @@ same-length c = search needs
 returns : tie.Need-returns
 returns c =
     let l : c .before .before .before .before .before .before .before .before .args .line .len ≤ length (c .before .before .before .before .before .before .before .before .args .line .bytes) = (let e : length (c .before .before .before .before .before .before .before .before .args .line .bytes) ≡ 81 = search needs in omega arith) in
-    let f = room (c .before .before .before .before .before .before .before .before .args .line .bytes) (now (c .before .before .before .before .before .before .before .before .args .out)) (c .before .before .before .before .before .before .before .before .args .line .len) (c .before .before .before .before .before .written .result) l (c .before .before .before .before .before .written .ensures) (c .if1 .taken) in
-    (f .0, c .before .before .before .fill .ensures ∙ f .1)
+    room (c .before .before .before .before .before .before .before .before .args .line .bytes) (now (c .before .before .before .before .before .before .before .before .args .out)) (c .before .before .before .before .before .before .before .before .args .line .len) (c .before .before .before .before .before .written .result) l (c .before .before .before .before .before .written .ensures) (c .if1 .taken) (c .before .before .before .fill .ensures)
 
 same-length-2 : tie.Need-same-length-2
 same-length-2 c = search needs
@@ -33,8 +32,7 @@ same-length-2 c = search needs
 returns-2 : tie.Need-returns-2
 returns-2 c =
     let l : c .before .before .before .before .before .before .before .before .args .line .len ≤ length (c .before .before .before .before .before .before .before .before .args .line .bytes) = (let e : length (c .before .before .before .before .before .before .before .before .args .line .bytes) ≡ 81 = search needs in omega arith) in
-    let f = all (c .before .before .before .before .before .before .before .before .args .line .bytes) (now (c .before .before .before .before .before .before .before .before .args .out)) (c .before .before .before .before .before .before .before .before .args .line .len) (c .before .before .before .before .before .written .result) l (c .before .before .before .before .before .written .ensures) (c .if1 .left) in
-    (f .0, c .before .before .before .fill .ensures ∙ f .1)
+    all (c .before .before .before .before .before .before .before .before .args .line .bytes) (now (c .before .before .before .before .before .before .before .before .args .out)) (c .before .before .before .before .before .before .before .before .args .line .len) (c .before .before .before .before .before .written .result) l (c .before .before .before .before .before .written .ensures) (c .if1 .left) (c .before .before .before .fill .ensures)
 
 pub copy-spec : {M : Type 1} → statement M
 copy-spec =
