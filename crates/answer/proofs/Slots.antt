@@ -1,69 +1,52 @@
--- What a listing into slots tells: one law for the ported list and for the strict one.
-use mathlib.Core.Path.{_≡_, refl, sym, ap, _∙_, subst}
-use mathlib.Core.Bool.{Bool, true, false, cond}
+-- The program's slots: whether a list has room in them, and where it is found again.
+use mathlib.Core.Path.{_≡_, sym, ap, _∙_}
 use mathlib.Core.List.{List, _++_, map}
-use Prim.Native.Nat.{ℕ, _≤_}
+use Prim.Native.Nat.{ℕ, _≤_, _<_}
 use native.Mathlib.Omega.{arith}
-use borrow.Author.Tests.{leb-true}
+use borrow.Author.Tests.{leb-true, le-leb, lt-leb}
 use lib.Dec.{leb}
-use lib.ListN.{length, take, drop, length-append, length-map, length-drop}
-use lib.Seq.{take-append-seam}
+use lib.ListN.{length, take, drop, length-append, length-map}
+use lib.Seq.{take-at}
 use Rattle.laws.specs.declared.ChessRetraction.{ChessRetraction}
 use Rattle.laws.specs.Retractions.{packed}
-use Rattle.accept.specs.declared.Verdict.{Verdict}
-use Rattle.accept.specs.declared.Verdict.the-variants.{Accepted, Refused}
-use Rattle.listing.specs.declared.Listed.{Listed}
-use Rattle.listing.specs.declared.Listed.the-variants.{Count, Room, Refused as notListed}
-use Rattle.accept.specs.Verdicts.{andThen}
+use Rattle.accept.specs.declared.Refusal.the-variants.{Room}
+use Rattle.accept.specs.declared.Verdict.the-variants.{Accepted}
+use Rattle.accept.specs.Verdicts.{numberOf}
+use Rattle.accept.specs.Said.{Test, firstFailing}
 use Rattle.board.specs.declared.RetractableBoard.{RetractableBoard}
-use Rattle.board.specs.Gate.{gateOf}
-use Rattle.retraction_gen.specs.Making.{listOn, fullBy}
+use Rattle.board.specs.Gate.{gateOf, boardTests}
+use Rattle.retraction_gen.specs.Making.{listOn, fullTest, listTests}
 use Rattle.retraction_gen.specs.Sequence.{sequenceOn}
-use Rattle.listing.specs.Listing.{listedBy, slotsBy, listedOf, slotsOf}
-use Rattle.strict.specs.Demand.{Lists}
+use Rattle.answer.specs.Replies.{roomTest, listedTests}
+use Rattle.accept.proofs.Tested.{pass-on, none-fails, last-passes}
+use Rattle.accept.proofs.Writing.{Written}
+use Rattle.board.proofs.Numbers.{passed-gate}
 
--- the list l had room in the slots, which then hold it
-pub record Held (v : Verdict) (l : List ChessRetraction) (n : ℕ) (after : List ℕ) : Type 0 where
-  pub passed : v ≡ Accepted
-  pub roomy : leb (length l) 8192 ≡ true
-  pub within : n ≤ length after
-  pub short : length (take n after) ≤ 8192
-  pub slots : take n after ≡ map packed l
+-- the last test, behind those that pass
+module _ (ts : List Test) (l : List ChessRetraction) (s : List ℕ) (passed : firstFailing ts ≡ 0) (size : length s ≡ 8192) where
+  pub roomy : length (map packed l) ≤ length s → firstFailing (ts ++ roomTest l) ≡ 0
+  unfolding firstFailing
+  roomy h = sym (pass-on ts (roomTest l) passed) ∙ rw (le-leb (length l) 8192 (omega (arith, length-map l packed)))
 
--- by the answer
-abbrev pub Told : Verdict → List ChessRetraction → List ℕ → Listed → Type 0
-Told v l after (Count n) = Held v l n after
-Told v l after (Room n) = (v ≡ Accepted) × (leb (length l) 8192 ≡ false)
-Told v l after (notListed why) = v ≡ Refused why
+  pub roomless : length s < length (map packed l) → numberOf Room ≡ firstFailing (ts ++ roomTest l)
+  unfolding firstFailing
+  roomless h = sym (rw (lt-leb (length l) 8192 (omega (arith, length-map l packed)))) ∙ pass-on ts (roomTest l) passed
 
-module _ (v : Verdict) (l : List ChessRetraction) (s after : List ℕ) (r : Listed) (answer : r ≡ listedBy v l s) (slots : after ≡ slotsBy v l s) (size : length s ≡ 8192) where
-  whole : take (length l) (map packed l ++ drop (length l) s) ≡ map packed l
-  whole = ap (λ (i : ℕ). take i (map packed l ++ drop (length l) s)) (sym (length-map l packed)) ∙ take-append-seam (map packed l) (drop (length l) s)
+-- a board that passes the tests of its ported list
+module _ (b : RetractableBoard) (h : firstFailing (listedTests b) ≡ 0) where
+  passed : (firstFailing (listTests b) ≡ 0) × (firstFailing (roomTest (sequenceOn b)) ≡ 0)
+  passed = none-fails (listTests b) (roomTest (sequenceOn b)) h
 
-  roomed : Bool → Type 0
-  roomed t = Told Accepted l (cond t (map packed l ++ drop (length l) s) s) (cond t (Count (length l)) (Room (length l)))
+  pub passed-board : gateOf b ≡ Accepted
+  passed-board = passed-gate b (none-fails (boardTests b) (fullTest (listOn b)) (passed .0) .0)
 
-  by : (w : Verdict) (t : Bool) → leb (length l) (length s) ≡ t → Told w l (slotsBy w l s) (listedBy w l s)
-  unfolding roomed
-  by (Refused why) t k = refl
-  by Accepted false k = subst roomed (sym k) (refl, ap (leb (length l)) (sym size) ∙ k)
-  by Accepted true k =
-      subst roomed (sym k) (record {
-        passed = refl;
-        roomy = ap (leb (length l)) (sym size) ∙ k;
-        within = simp (length-append, length-map, length-drop) (omega arith);
-        short = omega (arith, ap length whole, length-map l packed, leb-true (length l) (length s) k);
-        slots = whole;
-      })
+  pub passed-room : length (map packed (sequenceOn b)) ≤ 8192
+  passed-room = omega (arith, length-map (sequenceOn b) packed, leb-true (length (sequenceOn b)) 8192 (last-passes (leb (length (sequenceOn b)) 8192) Room (passed .1)))
 
-  pub told : (x : Listed) → r ≡ x → Told v l after x
-  told x e =
-      subst (Told v l after) (sym answer ∙ e) (subst (λ (a : List ℕ). Told v l a (listedBy v l s)) (sym slots) (by v (leb (length l) (length s)) refl))
+-- what was written stands in the first n slots
+module _ {ts : List Test} {t s : List ℕ} {n : ℕ} {after : List ℕ} (w : Written ts t s n after) where
+  pub written-is : take n after ≡ t
+  written-is = ap (take n) (w .holds) ∙ take-at t (drop (length t) s) n (sym (w .size))
 
-pub listed-told : (b : RetractableBoard) (s after : List ℕ) (r : Listed) → (r ≡ listedOf b s) × (after ≡ slotsOf b s) → length s ≡ 8192 → (x : Listed) → r ≡ x
-    → Told (andThen (gateOf b) (fullBy (listOn b))) (sequenceOn b) after x
-unfolding listedOf slotsOf
-listed-told b s after r e h x k = told (andThen (gateOf b) (fullBy (listOn b))) (sequenceOn b) s after r (e .0) (e .1) h x k
-
-pub strict-told : (b : RetractableBoard) (s after : List ℕ) (r : Listed) (e : Lists b s r after) → length s ≡ 8192 → (x : Listed) → r ≡ x → Told (gateOf b) (e .moves) after x
-strict-told b s after r e h x k = told (gateOf b) (e .moves) s after r (e .answer) (e .slots) h x k
+  pub written-within : n ≤ length after
+  written-within = omega (arith, ap length (w .holds), length-append t (drop (length t) s), w .size)

@@ -1,178 +1,130 @@
--- The answer to a line, put together from what was added to its buffer.
-use mathlib.Core.Path.{_≡_, refl, sym, _∙_, ap, ap₂, subst}
-use mathlib.Core.Bool.{Bool, true, false, cond}
+-- The answer to a line, by what the reader, the lists and the printer told, and that there is one.
+use mathlib.Core.Path.{_≡_, refl, sym, _∙_, ap, subst}
+use mathlib.Core.Bool.{Bool, true, false}
 use mathlib.Core.List.{List, [], _++_, map}
-use Prim.Native.Nat.{ℕ, _+_, _≤_, _<_, _^_}
-use native.Mathlib.Omega.{arith}
-use lib.Dec.{leb, ltb}
-use lib.ListN.{length, take, drop, length-append, length-drop}
-use lib.Seq.{length-take-le, take-append-seam}
-use borrow.Author.Tests.{le-ltb}
-use Rattle.io.specs.Counts.{Counts}
+use Prim.Native.Nat.{ℕ}
+use lib.Dec.{eqb}
+use lib.ListN.{length, take}
+use borrow.Author.Tests.{eqb-true}
 use Rattle.laws.specs.declared.ChessRetraction.{ChessRetraction}
 use Rattle.laws.specs.Retractions.{packed}
 use Rattle.accept.specs.declared.Refusal.{Refusal}
 use Rattle.accept.specs.declared.Refusal.the-variants.{Room as room}
-use Rattle.accept.specs.declared.Verdict.{Verdict}
 use Rattle.accept.specs.declared.Verdict.the-variants.{Accepted, Refused}
-use Rattle.accept.specs.Verdicts.{numberOf, andThen}
+use Rattle.accept.specs.Verdicts.{numberOf, verdictNumber}
+use Rattle.accept.specs.Said.{firstFailing, Writes}
 use Rattle.board.specs.declared.RetractableBoard.{RetractableBoard}
 use Rattle.board.specs.declared.Boarded.{Boarded}
-use Rattle.board.specs.Gate.{menOn, posOn, gateOf}
-use Rattle.text.specs.declared.Printed.{Printed}
-use Rattle.text.specs.declared.Printed.the-variants.{Count, Room, Refused as notPrinted}
-use Rattle.text.specs.Entries.{Reads, textOn, printedBy, leftBy, printedOf, leftOf}
-use Rattle.retraction_gen.specs.Making.{listOn, fullBy}
+use Rattle.board.specs.Gate.{posOn, gateOf}
+use Rattle.text.specs.Entries.{Reads, textOn}
+use Rattle.retraction_gen.specs.Making.{listTests}
 use Rattle.retraction_gen.specs.Sequence.{sequenceOn}
-use Rattle.feed.specs.declared.Put.{Put}
-use Rattle.feed.specs.Appending.{usedOf, PutsDecimal, Adds}
-use Rattle.report.specs.Report.{decimalOf, reportOf}
-use Rattle.strict.specs.Demand.{IsStrictList, strictMoves}
-use Rattle.answer.specs.Replies.{word, newline, refusedText, strictText, listsText, replyBy, Shows, ShowsStrict, ShowsBoard, Replies}
+use Rattle.listing.specs.declared.Listed.{Listed}
+use Rattle.listing.specs.declared.Listed.the-variants.{Count, Room, Refused as notListed}
+use Rattle.listing.specs.Listing.{listedSays}
+use Rattle.report.specs.Report.{reportOf}
+use Rattle.strict.specs.Demand.{IsStrictList, Lists, strictMoves}
+use Rattle.answer.specs.Replies.{newline, refusedText, roomTest, listedTests, bothTests, numberThen, answerText, over, slotsThen, Shows, AnswersBoard, listedThen, Replies}
+use Rattle.accept.proofs.Saying.{some-number}
+use Rattle.accept.proofs.Tested.{stop-on}
 use Rattle.text.proofs.RoundTrip.{read-one}
-use Rattle.text.proofs.Tails.{print-short}
-use Rattle.feed.proofs.Added.{added-len, added-bytes, added-length}
-use Rattle.accept.proofs.Numbered.{never}
-use Rattle.report.proofs.Decimals.{decimal-added, decimal-short}
+use Rattle.listing.proofs.Telling.{listing-tells}
 use Rattle.strict.proofs.Unique.{one-list}
 use Rattle.strict.proofs.Told.{demanded}
-use Rattle.answer.proofs.Sizes.{report-short}
-use Rattle.answer.proofs.Slots.{Held}
+use Rattle.answer.proofs.Slots.{roomy, roomless, passed-board, written-is}
+use Rattle.answer.proofs.Shown.{never-refused}
 
--- a count within a list, in both its forms
-counts : (n : ℕ) (o : List ℕ) → n ≤ length o → Counts n o
-counts n o h = (h, sym (length-take-le n o h))
+-- the board is shown with its lists, or refused
+module _ (b : RetractableBoard) (moves : List ChessRetraction) {n : ℕ} {o out q : List ℕ} where
+  pub answers-shown : IsStrictList b moves → firstFailing (bothTests b moves) ≡ 0 → {strict : List ℕ} → strict ≡ over (map packed moves) q
+      → Shows (textOn b ++ newline ++ reportOf (map packed (sequenceOn b)) (map packed moves)) n o out → AnswersBoard 0 b n o out q strict
+  answers-shown x k e s = record { moves = moves; exact = λ _. x; shows = rw k s; slots = e ∙ rw k }
 
--- `refused N`
-pub refused-shown : (r : Refusal) (o o₁ o₂ o₃ : List ℕ) (a d n x : ℕ) (v : Put) → length o ≡ 196608 → x < 2 ^ 64 → Adds o 0 word a o₁ → x ≡ numberOf r
-    → PutsDecimal o₁ a x v o₂ → d ≡ usedOf v a → Adds o₂ d newline n o₃ → Shows (refusedText r) n o₃
-refused-shown r o o₁ o₂ o₃ a d n x v l f p e q u w =
-    let s : length (decimalOf x) ≤ 20 = decimal-short o₁ o₂ a x v f q in
-    let q′ : Adds o₁ a (decimalOf x) d o₂ = decimal-added o₁ o₂ a x v f q d u in
-    let h₁ : 0 + length word ≤ length o = omega arith in
-    let a₁ = added-len o word o₁ 0 a p h₁ in
-    let l₁ = added-length o word o₁ 0 a p h₁ in
-    let h₂ : a + length (decimalOf x) ≤ length o₁ = omega arith in
-    let a₂ = added-len o₁ (decimalOf x) o₂ a d q′ h₂ in
-    let l₂ = added-length o₁ (decimalOf x) o₂ a d q′ h₂ in
-    let h₃ : d + length newline ≤ length o₂ = omega arith in
-    let a₃ = added-len o₂ newline o₃ d n w h₃ in
-    let l₃ = added-length o₂ newline o₃ d n w h₃ in (
-      counts n o₃ (omega arith),
-      added-bytes o₂ newline o₃ d n w h₃ ∙ ap (λ (i : List ℕ). i ++ newline) (added-bytes o₁ (decimalOf x) o₂ a d q′ h₂
-          ∙ ap₂ (λ (i j : List ℕ). i ++ j) (added-bytes o word o₁ 0 a p h₁) (ap (λ (i : ℕ). decimalOf i) e)),
-    )
+  pub answers-refused : {m : ℕ} (why : Refusal) → (m ≡ 0 → IsStrictList b moves) → numberOf why ≡ numberThen m (bothTests b moves)
+      → {strict : List ℕ} → strict ≡ q → Shows (refusedText (numberOf why)) n o out → AnswersBoard m b n o out q strict
+  answers-refused why x k e s = record { moves = moves; exact = x; shows = rw (← k, some-number why) s; slots = e ∙ rw (← k, some-number why) }
 
--- an accepted board's text and the report behind it
-module _ (b : RetractableBoard) (o o₁ : List ℕ) (p : Printed) (g : gateOf b ≡ Accepted) (l : length o ≡ 196608) (e : p ≡ printedOf b o) (f : o₁ ≡ leftOf b o) where
-  text-short : length (textOn b) ≤ 81
-  text-short = print-short (menOn b) (b .turn) (b .white) (b .black) (b .passant)
+-- by what the strict list's slots told
+module _ (b : RetractableBoard) (passed : firstFailing (listedTests b) ≡ 0) {q after : List ℕ} (size : length q ≡ 8192) (r : Listed) (x : Lists b q r after) where
+  exact : IsStrictList b (x .moves)
+  exact = x .exact (passed-board b passed)
 
-  roomy : ltb (length o) (length (textOn b)) ≡ false
-  roomy = le-ltb (length o) (length (textOn b)) (omega (arith, text-short))
+  module _ {n : ℕ} {o out : List ℕ} where
+    pub strict-shown : (k : ℕ) → r ≡ Count k → (p : List ℕ) → p ≡ map packed (sequenceOn b) → Shows (textOn b ++ newline ++ reportOf p (take k after)) n o out
+        → AnswersBoard 0 b n o out q after
+    strict-shown k e p d s =
+        let w = listing-tells (x .moves) r (x .into) (Count k) e in
+        answers-shown b (x .moves) exact (roomy (listedTests b) (x .moves) q passed size (w .fits)) (w .holds)
+        (subst (λ (l : List ℕ). Shows (textOn b ++ newline ++ reportOf l (map packed (x .moves))) n o out) d
+        (subst (λ (l : List ℕ). Shows (textOn b ++ newline ++ reportOf p l) n o out) (written-is w) s))
 
-  printed-is : p ≡ Count (length (textOn b))
-  printed-is = e ∙ ap (λ (v : Verdict). printedBy v (textOn b) o) g ∙ rw roomy
+    pub strict-roomless : (k : ℕ) → r ≡ Room k → Shows (refusedText (numberOf room)) n o out → AnswersBoard 0 b n o out q after
+    strict-roomless k e s =
+        let w = listing-tells (x .moves) r (x .into) (Room k) e in
+        answers-refused b (x .moves) room (λ _. exact) (roomless (listedTests b) (x .moves) q passed size (w .short)) (w .holds) s
 
-  left-is : o₁ ≡ textOn b ++ drop (length (textOn b)) o
-  left-is = f ∙ ap (λ (v : Verdict). leftBy v (textOn b) o) g ∙ rw roomy
+-- by what the ported list's slots told
+module _ (b : RetractableBoard) (g : gateOf b ≡ Accepted) {p after : List ℕ} (size : length p ≡ 8192) (r : Listed)
+    (x : Writes (listTests b) (map packed (sequenceOn b)) p (listedSays r) after) where
+  pub listed-passes : (k : ℕ) → r ≡ Count k → firstFailing (listedTests b) ≡ 0
+  listed-passes k e = let w = listing-tells (sequenceOn b) r x (Count k) e in roomy (listTests b) (sequenceOn b) p (w .passed) size (w .fits)
 
-  pub lists-shown : (listed strict : List ℕ) → length listed ≤ 8192 → length strict ≤ 8192 → (m n r : ℕ) (o₂ o₃ : List ℕ) → p ≡ Count m → Adds o₁ m newline n o₂
-      → Adds o₂ n (reportOf listed strict) r o₃ → Shows (textOn b ++ newline ++ reportOf listed strict) r o₃
-  lists-shown listed strict u v m n r o₂ o₃ q w x =
-      let c = printed-is in
-      let k : m ≡ length (textOn b) = cc in
-      let s = text-short in
-      let y = report-short listed strict u v in
-      let z : length o₁ ≡ 196608 = ap length left-is ∙ simp (length-append, length-drop) (omega arith) in
-      let h : m + length newline ≤ length o₁ = omega arith in
-      let a = added-len o₁ newline o₂ m n w h in
-      let d = added-length o₁ newline o₂ m n w h in
-      let i : n + length (reportOf listed strict) ≤ length o₂ = omega arith in
-      let a′ = added-len o₂ (reportOf listed strict) o₃ n r x i in
-      let d′ = added-length o₂ (reportOf listed strict) o₃ n r x i in (
-        counts r o₃ (omega arith),
-        added-bytes o₂ (reportOf listed strict) o₃ n r x i ∙ ap (λ (j : List ℕ). j ++ reportOf listed strict) (added-bytes o₁ newline o₂ m n w h
-            ∙ ap (λ (j : List ℕ). j ++ newline) (ap₂ take k left-is ∙ take-append-seam (textOn b) (drop (length (textOn b)) o))),
-      )
+  module _ {n : ℕ} {o out q : List ℕ} where
+    pub board-shown : (k : ℕ) → r ≡ Count k → {strict : List ℕ} → AnswersBoard 0 b n o out q strict → AnswersBoard 0 b n o out q strict × (after ≡ listedThen 0 b p)
+    board-shown k e s = (s, listing-tells (sequenceOn b) r x (Count k) e .holds ∙ rw (listed-passes k e))
 
-  pub never-room : (m : ℕ) → p ≡ Room m → ⊥
-  never-room m q = let c = printed-is in let z : _≡_ {A = ℕ} 0 1 = cc in omega arith
+    stopped : (why : Refusal) → numberOf why ≡ firstFailing (listedTests b) → after ≡ p → Shows (refusedText (numberOf why)) n o out
+        → AnswersBoard 0 b n o out q q × (after ≡ listedThen 0 b p)
+    stopped why h e s =
+        let l = strictMoves (posOn b) in
+        (answers-refused b l why (λ _. demanded b g) (stop-on (listedTests b) (roomTest l) why h) refl s, e ∙ rw (← h, some-number why))
 
-  pub never-refused : (r : Refusal) → p ≡ notPrinted r → ⊥
-  never-refused r q = let c = printed-is in let z : _≡_ {A = ℕ} 0 1 = cc in omega arith
+    pub board-roomless : (k : ℕ) → r ≡ Room k → Shows (refusedText (numberOf room)) n o out → AnswersBoard 0 b n o out q q × (after ≡ listedThen 0 b p)
+    board-roomless k e s =
+        let w = listing-tells (sequenceOn b) r x (Room k) e in
+        stopped room (roomless (listTests b) (sequenceOn b) p (w .passed) size (w .short)) (w .holds) s
 
--- the strict list's answer, by what listing it told
-module _ (b : RetractableBoard) (p : List ℕ) (moves : List ChessRetraction) (exact : IsStrictList b moves) (n : ℕ) (o : List ℕ) where
-  shown-in : (t : Bool) → leb (length moves) 8192 ≡ t → Shows (cond t (textOn b ++ newline ++ reportOf p (map packed moves)) (refusedText room)) n o → ShowsStrict b p n o
-  shown-in t k s = record {
-    moves = moves;
-    exact = exact;
-    shows = subst (λ (t : Bool). Shows (cond t (textOn b ++ newline ++ reportOf p (map packed moves)) (refusedText room)) n o) (sym k) s;
-  }
-
-  pub strict-shown : (v : Verdict) (m : ℕ) (after : List ℕ) → Held v moves m after → Shows (textOn b ++ newline ++ reportOf p (take m after)) n o → ShowsStrict b p n o
-  strict-shown v m after h s = shown-in true (h .roomy) (subst (λ (q : List ℕ). Shows (textOn b ++ newline ++ reportOf p q) n o) (h .slots) s)
-
-  pub strict-roomless : leb (length moves) 8192 ≡ false → Shows (refusedText room) n o → ShowsStrict b p n o
-  strict-roomless k s = shown-in false k s
-
--- the ported list's answer, by what listing it told; `full` is 8's verdict
-module _ (b : RetractableBoard) (g : gateOf b ≡ Accepted) (n : ℕ) (o : List ℕ) where
-  listed-by : (v : Verdict) → andThen (gateOf b) (fullBy (listOn b)) ≡ v → fullBy (listOn b) ≡ v
-  listed-by v e = sym (ap (λ (w : Verdict). andThen w (fullBy (listOn b))) g) ∙ e
-
-  shown-by : (v : Verdict) (moves : List ChessRetraction) → IsStrictList b moves → fullBy (listOn b) ≡ v → Shows (listsText v b moves) n o → ShowsBoard b n o
-  shown-by v moves x e s = record { moves = moves; exact = x; shows = subst (λ (w : Verdict). Shows (listsText w b moves) n o) (sym e) s }
-
-  pub board-shown : (m : ℕ) (after : List ℕ) → Held (andThen (gateOf b) (fullBy (listOn b))) (sequenceOn b) m after → ShowsStrict b (take m after) n o → ShowsBoard b n o
-  board-shown m after h s =
-      shown-by Accepted (s .moves) (s .exact) (listed-by Accepted (h .passed))
-      (subst (λ (t : Bool). Shows (cond t (strictText b (map packed (sequenceOn b)) (s .moves)) (refusedText room)) n o) (sym (h .roomy))
-      (subst (λ (q : List ℕ). Shows (strictText b q (s .moves)) n o) (h .slots) (s .shows)))
-
-  pub board-roomless : (andThen (gateOf b) (fullBy (listOn b)) ≡ Accepted) × (leb (length (sequenceOn b)) 8192 ≡ false) → Shows (refusedText room) n o → ShowsBoard b n o
-  board-roomless k s =
-      shown-by Accepted (strictMoves (posOn b)) (demanded b g) (listed-by Accepted (k .0))
-      (subst (λ (t : Bool). Shows (cond t (strictText b (map packed (sequenceOn b)) (strictMoves (posOn b))) (refusedText room)) n o) (sym (k .1)) s)
-
-  pub board-refused : (why : Refusal) → andThen (gateOf b) (fullBy (listOn b)) ≡ Refused why → Shows (refusedText why) n o → ShowsBoard b n o
-  board-refused why e s = shown-by (Refused why) (strictMoves (posOn b)) (demanded b g) (listed-by (Refused why) e) s
+    pub board-refused : (why : Refusal) → r ≡ notListed why → Shows (refusedText (numberOf why)) n o out → AnswersBoard 0 b n o out q q × (after ≡ listedThen 0 b p)
+    board-refused why e s =
+        let w = listing-tells (sequenceOn b) r x (notListed why) e in stopped why (stop-on (listTests b) (roomTest (sequenceOn b)) why (w .number)) (w .holds) s
 
 -- what is read is answered
-module _ (t : List ℕ) (b : Boarded) (n : ℕ) (o : List ℕ) (a : Reads t b) where
-  pub reply-refused : (why : Refusal) → b .verdict ≡ Refused why → Shows (refusedText why) n o → Replies t n o
+module _ (t : List ℕ) (b : Boarded) (a : Reads t b) {n : ℕ} {o out p q : List ℕ} where
+  pub reply-refused : (why : Refusal) → b .verdict ≡ Refused why → Shows (refusedText (numberOf why)) n o out → Replies t n o out p p q q
   reply-refused why e s = record {
     read = b;
     reads = a;
-    moves = [];
-    exact = λ h. absurd (never why (sym e ∙ h));
-    shows = subst (λ (v : Verdict). Shows (replyBy v (b .board) []) n o) (sym e) s;
+    answers = answers-refused (b .board) [] why (λ h. absurd (never-refused why (sym (ap verdictNumber e) ∙ h))) (rw (e, some-number why)) refl s;
+    slots = rw (e, some-number why, some-number why);
   }
 
-  pub reply-accepted : b .verdict ≡ Accepted → ShowsBoard (b .board) n o → Replies t n o
-  reply-accepted e s = record {
-    read = b;
-    reads = a;
-    moves = s .moves;
-    exact = λ _. s .exact;
-    shows = subst (λ (v : Verdict). Shows (replyBy v (b .board) (s .moves)) n o) (sym e) (s .shows);
-  }
+  pub reply-accepted : b .verdict ≡ Accepted → {listed strict : List ℕ} → AnswersBoard 0 (b .board) n o out q strict × (listed ≡ listedThen 0 (b .board) p)
+      → Replies t n o out p listed q strict
+  reply-accepted e s = record { read = b; reads = a; answers = rw e (s .0); slots = rw e (s .1) }
 
--- there is one answer to a line
-pub reply-one : (t : List ℕ) (n m : ℕ) (o p : List ℕ) → Replies t n o → Replies t m p → (n ≡ m) × (take n o ≡ take m p)
-reply-one t n m o p a b = (a .shows .0 .1 ∙ ap length same ∙ sym (b .shows .0 .1), same)
+shows-one : {t u o x y : List ℕ} {n m : ℕ} → t ≡ u → Shows t n o x → Shows u m o y → (n ≡ m) × (x ≡ y)
+shows-one {o = o} e a b = (a .size ∙ ap length e ∙ sym (b .size), a .holds ∙ ap (λ (t : List ℕ). over t o) e ∙ sym (b .holds))
+
+-- there is one answer to a board: its bytes, all of the buffer and of the strict slots
+pub answers-one : {m : ℕ} {b : RetractableBoard} {n k : ℕ} {o x y q s u : List ℕ} → AnswersBoard m b n o x q s → AnswersBoard m b k o y q u → (n ≡ k) × (x ≡ y) × (s ≡ u)
+answers-one {m} {b} {q = q} c d =
+    let e = by (eqb m 0) refl in let h = shows-one (e .0) (c .shows) (d .shows) in (h .0, h .1, c .slots ∙ e .1 ∙ sym (d .slots))
   where
-    reads-same : a .read ≡ b .read
-    reads-same = read-one t (a .read) (b .read) (a .reads) (b .reads)
+    text : List ChessRetraction → List ℕ
+    text l = answerText (numberThen m (bothTests b l)) b l
 
-    texts : (v : Verdict) → a .read .verdict ≡ v → replyBy v (a .read .board) (a .moves) ≡ replyBy v (a .read .board) (b .moves)
-    texts (Refused why) e = refl
-    texts Accepted e =
-        ap (λ (l : List ChessRetraction). replyBy Accepted (a .read .board) l)
-        (one-list (a .read .board) (a .moves) (b .moves) (a .exact e)
-        (subst (λ (x : Boarded). IsStrictList (x .board) (b .moves)) (sym reads-same) (b .exact (sym (ap (λ (x : Boarded). x .verdict) reads-same) ∙ e))))
+    slots : List ChessRetraction → List ℕ
+    slots l = slotsThen (numberThen m (bothTests b l)) l q
 
-    same : take n o ≡ take m p
-    same =
-        a .shows .1 ∙ texts (a .read .verdict) refl ∙ ap (λ (x : Boarded). replyBy (x .verdict) (x .board) (b .moves)) reads-same ∙ sym (b .shows .1)
+    by : (t : Bool) → eqb m 0 ≡ t → (text (c .moves) ≡ text (d .moves)) × (slots (c .moves) ≡ slots (d .moves))
+    by true e =
+        let h = eqb-true m 0 e in
+        let l = one-list b (c .moves) (d .moves) (c .exact h) (d .exact h) in (ap text l, ap slots l)
+    by false e = (rw (e, e), rw (e, e))
+
+-- there is one answer to a line: its bytes, all of the buffer and of both slots
+pub reply-one : (t : List ℕ) (n m : ℕ) (o x y p l k q s u : List ℕ) → Replies t n o x p l q s → Replies t m o y p k q u → (n ≡ m) × (x ≡ y) × (l ≡ k) × (s ≡ u)
+reply-one t n m o x y p l k q s u a b =
+    let e : b .read ≡ a .read = read-one t (b .read) (a .read) (b .reads) (a .reads) in
+    let h = answers-one (a .answers) (subst (λ (r : Boarded). AnswersBoard (verdictNumber (r .verdict)) (r .board) m o y q u) e (b .answers)) in
+    (h .0, h .1, a .slots ∙ sym (ap (λ (r : Boarded). listedThen (verdictNumber (r .verdict)) (r .board) p) e) ∙ sym (b .slots), h .2)

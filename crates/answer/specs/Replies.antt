@@ -1,22 +1,20 @@
--- What the program prints of a line, document 01's "Text".
+-- What the program prints of a line, document 01's "Text", and what its slots then hold.
 use mathlib.Core.Path.{_≡_}
 use mathlib.Core.Bool.{cond}
 use mathlib.Core.List.{List, [], _∷_, _++_, map}
 use Prim.Native.Nat.{ℕ}
-use lib.Dec.{leb}
-use lib.ListN.{length, take}
+use lib.Dec.{eqb, leb}
+use lib.ListN.{length, drop}
 use Rattle.io.specs.Counts.{Counts}
 use Rattle.laws.specs.declared.ChessRetraction.{ChessRetraction}
 use Rattle.laws.specs.Retractions.{packed}
-use Rattle.accept.specs.declared.Refusal.{Refusal}
 use Rattle.accept.specs.declared.Refusal.the-variants.{Room}
-use Rattle.accept.specs.declared.Verdict.{Verdict}
-use Rattle.accept.specs.declared.Verdict.the-variants.{Accepted, Refused}
-use Rattle.accept.specs.Verdicts.{numberOf}
+use Rattle.accept.specs.Verdicts.{verdictNumber}
+use Rattle.accept.specs.Said.{Test, _else_, firstFailing}
 use Rattle.board.specs.declared.RetractableBoard.{RetractableBoard}
 use Rattle.board.specs.declared.Boarded.{Boarded}
 use Rattle.text.specs.Entries.{Reads, textOn}
-use Rattle.retraction_gen.specs.Making.{listOn, fullBy}
+use Rattle.retraction_gen.specs.Making.{listTests}
 use Rattle.retraction_gen.specs.Sequence.{sequenceOn}
 use Rattle.strict.specs.Demand.{IsStrictList}
 use Rattle.report.specs.Report.{decimalOf, reportOf}
@@ -29,45 +27,56 @@ abbrev pub newline : List ℕ
 newline = 10 ∷ []
 
 -- "A refused line prints `refused N` alone"
-abbrev pub refusedText : Refusal → List ℕ
-refusedText r = (word ++ decimalOf (numberOf r)) ++ newline
+abbrev pub refusedText : ℕ → List ℕ
+refusedText n = (word ++ decimalOf n) ++ newline
 
--- "Its slices have 8,192 slots": the text t where the list l has room, else 13
-abbrev pub roomed : List ChessRetraction → List ℕ → List ℕ
-roomed l t = cond (leb (length l) 8192) t (refusedText Room)
+-- "Its slices have 8,192 slots": else 13
+abbrev pub roomTest : List ChessRetraction → List Test
+roomTest l = (leb (length l) 8192 else Room) ∷ []
 
--- the two lists in writing, the packed slots of the first being p and the strict list s
-abbrev pub strictText : RetractableBoard → List ℕ → List ChessRetraction → List ℕ
-strictText b p s = roomed s (textOn b ++ newline ++ reportOf p (map packed s))
+-- "listing into slots 8, 13": the tests of a board's ported list, and behind them "strict list .. 13", the list being s
+abbrev pub listedTests : RetractableBoard → List Test
+listedTests b = listTests b ++ roomTest (sequenceOn b)
 
--- "reads one text a line .. and prints it, then `listed A strict B` ..": by whether the ported list is FULL
-abbrev pub listsText : Verdict → RetractableBoard → List ChessRetraction → List ℕ
-listsText (Refused why) b s = refusedText why
-listsText Accepted b s = roomed (sequenceOn b) (strictText b (map packed (sequenceOn b)) s)
+abbrev pub bothTests : RetractableBoard → List ChessRetraction → List Test
+bothTests b s = listedTests b ++ roomTest s
 
-abbrev pub replyBy : Verdict → RetractableBoard → List ChessRetraction → List ℕ
-replyBy (Refused why) b s = refusedText why
-replyBy Accepted b s = listsText (fullBy (listOn b)) b s
+-- the number m of a line's reader or, where it is 0, of the first test that fails
+abbrev pub numberThen : ℕ → List Test → ℕ
+numberThen m ts = cond (eqb m 0) (firstFailing ts) m
 
--- the first n bytes of o are t
-abbrev pub Shows : List ℕ → ℕ → List ℕ → Type 0
-Shows t n o = Counts n o × (take n o ≡ t)
+-- "prints it, then `listed A strict B` ..", the strict list being s; or the refusal n, where it is not 0
+abbrev pub answerText : ℕ → RetractableBoard → List ChessRetraction → List ℕ
+answerText n b s = cond (eqb n 0) (textOn b ++ newline ++ reportOf (map packed (sequenceOn b)) (map packed s)) (refusedText n)
 
--- they are the answer of a board, its strict list being demand 3's
-pub record ShowsStrict (b : RetractableBoard) (p : List ℕ) (n : ℕ) (o : List ℕ) : Type 0 where
+-- t, and beyond it what stood in o
+abbrev pub over : List ℕ → List ℕ → List ℕ
+over t o = t ++ drop (length t) o
+
+-- "packed ..; slots beyond keep their numbers": slots that held o after the list l went into them; "A refusal writes nothing"
+abbrev pub slotsThen : ℕ → List ChessRetraction → List ℕ → List ℕ
+slotsThen n l o = cond (eqb n 0) (over (map packed l) o) o
+
+-- the first n bytes of a buffer that held o are now t, and all others are as they were; `counts`, which follows, is for `&out[..n]`
+pub record Shows (t : List ℕ) (n : ℕ) (o out : List ℕ) : Type 0 where
+  pub size : n ≡ length t
+  pub holds : out ≡ over t o
+  pub counts : Counts n out
+
+-- the board b is answered, or the refusal m of its line: the moves are the strict list by demand 3, whose slots held q and then hold strict
+pub record AnswersBoard (m : ℕ) (b : RetractableBoard) (n : ℕ) (o out q strict : List ℕ) : Type 0 where
   pub moves : List ChessRetraction
-  pub exact : IsStrictList b moves
-  pub shows : Shows (strictText b p moves) n o
+  pub exact : m ≡ 0 → IsStrictList b moves
+  pub shows : Shows (answerText (numberThen m (bothTests b moves)) b moves) n o out
+  pub slots : strict ≡ slotsThen (numberThen m (bothTests b moves)) moves q
 
-pub record ShowsBoard (b : RetractableBoard) (n : ℕ) (o : List ℕ) : Type 0 where
-  pub moves : List ChessRetraction
-  pub exact : IsStrictList b moves
-  pub shows : Shows (listsText (fullBy (listOn b)) b moves) n o
+-- what the ported list's slots then hold, having held p
+abbrev pub listedThen : ℕ → RetractableBoard → List ℕ → List ℕ
+listedThen m b p = slotsThen (numberThen m (listedTests b)) (sequenceOn b) p
 
--- they are the answer to the line t
-pub record Replies (t : List ℕ) (n : ℕ) (o : List ℕ) : Type 0 where
+-- the line t is answered
+pub record Replies (t : List ℕ) (n : ℕ) (o out p listed q strict : List ℕ) : Type 0 where
   pub read : Boarded
   pub reads : Reads t read
-  pub moves : List ChessRetraction
-  pub exact : read .verdict ≡ Accepted → IsStrictList (read .board) moves
-  pub shows : Shows (replyBy (read .verdict) (read .board) moves) n o
+  pub answers : AnswersBoard (verdictNumber (read .verdict)) (read .board) n o out q strict
+  pub slots : listed ≡ listedThen (verdictNumber (read .verdict)) (read .board) p

@@ -4,18 +4,21 @@ use board::RetractableBoard;
 use listing::Listed;
 use text::Printed;
 ghost use mathlib.Core.Path.{_≡_};
-ghost use mathlib.Core.List.{_++_};
+ghost use mathlib.Core.List.{_++_, map};
 ghost use Prim.Native.Nat.{_≤_};
 ghost use lib.ListN.{length};
+ghost use Rattle.laws.specs.Retractions.{packed};
 ghost use Rattle.accept.specs.declared.Verdict.the-variants.{Accepted};
+ghost use Rattle.accept.specs.Said.{firstFailing};
 ghost use Rattle.board.specs.Gate.{gateOf};
 ghost use Rattle.text.specs.Entries.{textOn};
+ghost use Rattle.retraction_gen.specs.Sequence.{sequenceOn};
 ghost use Rattle.report.specs.Report.{reportOf};
-ghost use Rattle.answer.specs.Replies.{newline, Shows, ShowsStrict, ShowsBoard};
+ghost use Rattle.answer.specs.Replies.{newline, listedTests, Shows, AnswersBoard, listedThen};
 
 fn put_lists(b: RetractableBoard, listed: &[u16], strict: &[u16], out: &mut [u8; 196608]) -> usize
     requires { ⌜ (gateOf b ≡ Accepted) × (length (now listed) ≤ 8192) × (length (now strict) ≤ 8192) ⌝ }
-    ensures { λ n. ⌜ Shows (textOn b ++ newline ++ reportOf (now (listed .entry)) (now (strict .entry))) n (now (out .exit)) ⌝ }
+    ensures { λ n. ⌜ Shows (textOn b ++ newline ++ reportOf (now (listed .entry)) (now (strict .entry))) n (now (out .entry)) (now (out .exit)) ⌝ }
 {
     let p = text::print(b, out);
     match p {
@@ -34,8 +37,8 @@ fn put_strict(
     strict: &mut [u16],
     out: &mut [u8; 196608],
 ) -> usize
-    requires { ⌜ (gateOf b ≡ Accepted) × (length (now listed) ≤ 8192) × (length (now strict) ≡ 8192) ⌝ }
-    ensures { λ n. ⌜ ShowsStrict b (now (listed .entry)) n (now (out .exit)) ⌝ }
+    requires { ⌜ (firstFailing (listedTests b) ≡ 0) × (now listed ≡ map packed (sequenceOn b)) × (length (now strict) ≡ 8192) ⌝ }
+    ensures { λ n. ⌜ AnswersBoard 0 b n (now (out .entry)) (now (out .exit)) (now (strict .entry)) (now (strict .exit)) ⌝ }
 {
     let s = strict::strict_into(b, strict);
     match s {
@@ -52,7 +55,7 @@ pub fn put_board(
     out: &mut [u8; 196608],
 ) -> usize
     requires { ⌜ (gateOf b ≡ Accepted) × (length (now listed) ≡ 8192) × (length (now strict) ≡ 8192) ⌝ }
-    ensures { λ n. ⌜ ShowsBoard b n (now (out .exit)) ⌝ }
+    ensures { λ n. ⌜ AnswersBoard 0 b n (now (out .entry)) (now (out .exit)) (now (strict .entry)) (now (strict .exit)) × (now (listed .exit) ≡ listedThen 0 b (now (listed .entry))) ⌝ }
 {
     let l = listing::retractions_into(b, listed);
     match l {

@@ -4,13 +4,14 @@ use accept::Verdict;
 use board::RetractableBoard;
 use listing::Listed;
 use text::Printed;
+ghost use Rattle.accept.specs.Verdicts.{numberOf};
 ghost use Rattle.answer.specs.Replies.{refusedText, Shows, Replies};
 
 pub mod inner; // inner.rt: the answer of a board that its gate let pass
 
-// `refused N`, and nothing else.
+// `refused N`, and nothing else; the bytes behind it stay.
 pub fn put_refused(r: Refusal, out: &mut [u8; 196608]) -> usize
-    ensures { λ n. ⌜ Shows (refusedText r) n (now (out .exit)) ⌝ }
+    ensures { λ n. ⌜ Shows (refusedText (numberOf r)) n (now (out .entry)) (now (out .exit)) ⌝ }
 {
     let a = feed::put_bytes(out, 0, b"refused ").used(0);
     let number = accept::number(r) as u64;
@@ -18,14 +19,14 @@ pub fn put_refused(r: Refusal, out: &mut [u8; 196608]) -> usize
     feed::put_bytes(out, d, b"\n").used(d)
 }
 
-// The first bytes of `out` are the answer to a line; answers how many. What the slots held before does not matter.
+// The first bytes of `out` are the answer to a line; answers how many. The bytes behind it stay, and so do the slots that no list needs.
 pub fn reply(
     line: &[u8],
     listed: &mut [u16; 8192],
     strict: &mut [u16; 8192],
     out: &mut [u8; 196608],
 ) -> usize
-    ensures { λ n. ⌜ Replies (now (line .entry)) n (now (out .exit)) ⌝ }
+    ensures { λ n. ⌜ Replies (now (line .entry)) n (now (out .entry)) (now (out .exit)) (now (listed .entry)) (now (listed .exit)) (now (strict .entry)) (now (strict .exit)) ⌝ }
 {
     let b = text::read(line);
     let v = b.verdict;

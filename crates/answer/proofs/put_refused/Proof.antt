@@ -5,7 +5,7 @@ use lib.ListN.{length}
 use borrow.Author.Needs.{needs}
 use denote.Ref.{now}
 use Rattle.feed.proofs.Added.{used-adds}
-use Rattle.answer.proofs.Spoken.{refused-shown}
+use Rattle.answer.proofs.Shown.{refused-shown}
 use Rattle.answer.proofs.put_refused.Statement.{statement}
 use Rattle.answer.proofs.put_refused.Tie as tie
 

@@ -24,10 +24,10 @@ put-board-requires : tie.Need-put-board-requires
 put-board-requires c κs = (read-accepted _ _ (c .before .before .before .before .before .before .read .ensures) (c .before .before .before .before .enum-told .given .1) .0, (let e : length (now (c .before .before .before .before .before .before .before .before .args .listed)) ≡ 8192 = search needs in e), (let e : length (now (c .before .before .before .before .before .before .before .before .args .strict)) ≡ 8192 = search needs in e))
 
 returns : tie.Need-returns
-returns c = reply-refused _ _ _ _ (c .before .before .before .before .before .read .ensures) _ (c .before .before .before .v .given .1) (c .put-refused .ensures)
+returns c = reply-refused _ _ (c .before .before .before .before .before .read .ensures) _ (c .before .before .before .v .given .1) (c .put-refused .ensures)
 
 returns-2 : tie.Need-returns-2
-returns-2 c = reply-accepted _ _ _ _ (c .before .before .before .before .before .before .before .read .ensures) (c .before .before .before .before .before .enum-told .given .1) (c .put-board .ensures)
+returns-2 c = reply-accepted _ _ (c .before .before .before .before .before .before .before .read .ensures) (c .before .before .before .before .before .enum-told .given .1) (c .put-board .ensures)
 
 pub reply-spec : {M : Type 1} → statement M
 reply-spec =

@@ -1,8 +1,10 @@
 -- `answer::inner::put_board` meets its contract.
 use mathlib.Core.Path.{sym}
 use lib.Seq.{length-take-le}
-use Rattle.answer.proofs.Slots.{listed-told}
-use Rattle.answer.proofs.Spoken.{board-shown, board-roomless, board-refused}
+use Rattle.retraction_gen.specs.Sequence.{sequenceOn}
+use Rattle.listing.proofs.Telling.{listing-tells}
+use Rattle.answer.proofs.Slots.{written-is, written-within}
+use Rattle.answer.proofs.Spoken.{listed-passes, board-shown, board-roomless, board-refused}
 use borrow.Author.Needs.{needs}
 use Rattle.answer.proofs.inner.put_board.Statement.{statement}
 use Rattle.answer.proofs.inner.put_board.Tie as tie
@@ -14,13 +16,13 @@ enum-known-l : tie.Need-enum-known-l
 enum-known-l c = search needs
 
 slice-reshare-prefix-put-strict : tie.Need-slice-reshare-prefix-put-strict
-slice-reshare-prefix-put-strict c = listed-told (c .before .before .before .before .before .before .before .before .before .args .b) (c .before .before .before .before .before .before .before .before .before .args .listed .now) _ _ (c .before .before .before .before .before .retractions-into .ensures) (c .before .before .before .before .before .before .before .before .before .pre .1) _ (c .before .l .given .1) .within
+slice-reshare-prefix-put-strict c = written-within (listing-tells (sequenceOn (c .before .before .before .before .before .before .before .before .before .args .b)) _ (c .before .before .before .before .before .retractions-into .ensures) _ (c .before .l .given .1))
 
 slice-aggregate-put-strict : tie.Need-slice-aggregate-put-strict
-slice-aggregate-put-strict c = sym (length-take-le _ _ (listed-told (c .before .before .before .before .before .before .before .before .before .before .args .b) (c .before .before .before .before .before .before .before .before .before .before .args .listed .now) _ _ (c .before .before .before .before .before .before .retractions-into .ensures) (c .before .before .before .before .before .before .before .before .before .before .pre .1) _ (c .before .before .l .given .1) .within))
+slice-aggregate-put-strict c = sym (length-take-le _ _ (written-within (listing-tells (sequenceOn (c .before .before .before .before .before .before .before .before .before .before .args .b)) _ (c .before .before .before .before .before .before .retractions-into .ensures) _ (c .before .before .l .given .1))))
 
 put-strict-requires : tie.Need-put-strict-requires
-put-strict-requires c κs = let h = listed-told (c .before .before .before .before .before .before .before .before .before .before .before .before .args .b) (c .before .before .before .before .before .before .before .before .before .before .before .before .args .listed .now) _ _ (c .before .before .before .before .before .before .before .before .retractions-into .ensures) (c .before .before .before .before .before .before .before .before .before .before .before .before .pre .1) _ (c .before .before .before .before .l .given .1) in (c .before .before .before .before .before .before .before .before .before .before .before .before .pre .0, h .short, c .before .before .before .before .before .before .before .before .before .before .before .before .pre .2)
+put-strict-requires c κs = (listed-passes (c .before .before .before .before .before .before .before .before .before .before .before .before .args .b) (c .before .before .before .before .before .before .before .before .before .before .before .before .pre .0) (c .before .before .before .before .before .before .before .before .before .before .before .before .pre .1) _ (c .before .before .before .before .before .before .before .before .retractions-into .ensures) _ (c .before .before .before .before .l .given .1), written-is (listing-tells (sequenceOn (c .before .before .before .before .before .before .before .before .before .before .before .before .args .b)) _ (c .before .before .before .before .before .before .before .before .retractions-into .ensures) _ (c .before .before .before .before .l .given .1)), c .before .before .before .before .before .before .before .before .before .before .before .before .pre .2)
 
 enum-told : tie.Need-enum-told
 enum-told c = search needs
@@ -41,19 +43,19 @@ same-length-2 : tie.Need-same-length-2
 same-length-2 c = search needs
 
 returns : tie.Need-returns
-returns c = board-shown (c .before .before .before .before .before .before .before .before .before .before .before .before .before .before .before .args .b) (c .before .before .before .before .before .before .before .before .before .before .before .before .before .before .before .pre .0) _ _ _ _ (listed-told (c .before .before .before .before .before .before .before .before .before .before .before .before .before .before .before .args .b) (c .before .before .before .before .before .before .before .before .before .before .before .before .before .before .before .args .listed .now) _ _ (c .before .before .before .before .before .before .before .before .before .before .before .retractions-into .ensures) (c .before .before .before .before .before .before .before .before .before .before .before .before .before .before .before .pre .1) _ (c .before .before .before .before .before .before .before .l .given .1)) (c .before .before .put-strict .ensures)
+returns c = board-shown (c .before .before .before .before .before .before .before .before .before .before .before .before .before .before .before .args .b) (c .before .before .before .before .before .before .before .before .before .before .before .before .before .before .before .pre .0) (c .before .before .before .before .before .before .before .before .before .before .before .before .before .before .before .pre .1) _ (c .before .before .before .before .before .before .before .before .before .before .before .retractions-into .ensures) _ (c .before .before .before .before .before .before .before .l .given .1) (c .before .before .put-strict .ensures)
 
 same-length-3 : tie.Need-same-length-3
 same-length-3 c = search needs
 
 returns-2 : tie.Need-returns-2
-returns-2 c = board-roomless (c .before .before .before .before .before .before .before .before .before .before .args .b) (c .before .before .before .before .before .before .before .before .before .before .pre .0) _ _ (listed-told (c .before .before .before .before .before .before .before .before .before .before .args .b) (c .before .before .before .before .before .before .before .before .before .before .args .listed .now) _ _ (c .before .before .before .before .before .before .retractions-into .ensures) (c .before .before .before .before .before .before .before .before .before .before .pre .1) _ (c .before .before .enum-told .given .1)) (c .put-refused .ensures)
+returns-2 c = board-roomless (c .before .before .before .before .before .before .before .before .before .before .args .b) (c .before .before .before .before .before .before .before .before .before .before .pre .0) (c .before .before .before .before .before .before .before .before .before .before .pre .1) _ (c .before .before .before .before .before .before .retractions-into .ensures) _ (c .before .before .enum-told .given .1) (c .put-refused .ensures)
 
 same-length-4 : tie.Need-same-length-4
 same-length-4 c = search needs
 
 returns-3 : tie.Need-returns-3
-returns-3 c = board-refused (c .before .before .before .before .before .before .before .before .before .before .before .args .b) (c .before .before .before .before .before .before .before .before .before .before .before .pre .0) _ _ _ (listed-told (c .before .before .before .before .before .before .before .before .before .before .before .args .b) (c .before .before .before .before .before .before .before .before .before .before .before .args .listed .now) _ _ (c .before .before .before .before .before .before .before .retractions-into .ensures) (c .before .before .before .before .before .before .before .before .before .before .before .pre .1) _ (c .before .before .before .l2 .given .1)) (c .put-refused2 .ensures)
+returns-3 c = board-refused (c .before .before .before .before .before .before .before .before .before .before .before .args .b) (c .before .before .before .before .before .before .before .before .before .before .before .pre .0) (c .before .before .before .before .before .before .before .before .before .before .before .pre .1) _ (c .before .before .before .before .before .before .before .retractions-into .ensures) _ (c .before .before .before .l2 .given .1) (c .put-refused2 .ensures)
 
 pub put-board-spec : {M : Type 1} → statement M
 put-board-spec =

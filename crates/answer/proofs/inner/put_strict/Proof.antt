@@ -1,8 +1,11 @@
 -- `answer::inner::put_strict` meets its contract.
-use mathlib.Core.Path.{sym, _∙_}
+use mathlib.Core.Path.{sym, ap}
+use native.Mathlib.Omega.{arith}
+use lib.ListN.{length}
 use lib.Seq.{length-take-le}
-use Rattle.accept.proofs.Numbered.{never}
-use Rattle.answer.proofs.Slots.{strict-told}
+use Rattle.listing.proofs.Telling.{listing-tells}
+use Rattle.answer.proofs.Slots.{passed-board, passed-room, written-is, written-within}
+use Rattle.answer.proofs.Shown.{never-failed}
 use Rattle.answer.proofs.Spoken.{strict-shown, strict-roomless}
 use borrow.Author.Needs.{needs}
 use Rattle.answer.proofs.inner.put_strict.Statement.{statement}
@@ -15,13 +18,13 @@ enum-known-s : tie.Need-enum-known-s
 enum-known-s c = search needs
 
 slice-reshare-prefix-put-lists : tie.Need-slice-reshare-prefix-put-lists
-slice-reshare-prefix-put-lists c = strict-told (c .before .before .before .before .before .before .before .before .before .args .b) (c .before .before .before .before .before .before .before .before .before .args .strict .now) _ _ (c .before .before .before .before .before .strict-into .ensures) (c .before .before .before .before .before .before .before .before .before .pre .2) _ (c .before .s .given .1) .within
+slice-reshare-prefix-put-lists c = let x = c .before .before .before .before .before .strict-into .ensures in let w = listing-tells (x .moves) _ (x .into) _ (c .before .s .given .1) in written-within w
 
 slice-aggregate-put-lists : tie.Need-slice-aggregate-put-lists
-slice-aggregate-put-lists c = sym (length-take-le _ _ (strict-told (c .before .before .before .before .before .before .before .before .before .before .args .b) (c .before .before .before .before .before .before .before .before .before .before .args .strict .now) _ _ (c .before .before .before .before .before .before .strict-into .ensures) (c .before .before .before .before .before .before .before .before .before .before .pre .2) _ (c .before .before .s .given .1) .within))
+slice-aggregate-put-lists c = let x = c .before .before .before .before .before .before .strict-into .ensures in let w = listing-tells (x .moves) _ (x .into) _ (c .before .before .s .given .1) in sym (length-take-le _ _ (written-within w))
 
 put-lists-requires : tie.Need-put-lists-requires
-put-lists-requires c κs = let h = strict-told (c .before .before .before .before .before .before .before .before .before .before .before .args .b) (c .before .before .before .before .before .before .before .before .before .before .before .args .strict .now) _ _ (c .before .before .before .before .before .before .before .strict-into .ensures) (c .before .before .before .before .before .before .before .before .before .before .before .pre .2) _ (c .before .before .before .s .given .1) in (c .before .before .before .before .before .before .before .before .before .before .before .pre .0, c .before .before .before .before .before .before .before .before .before .before .before .pre .1, h .short)
+put-lists-requires c κs = let x = c .before .before .before .before .before .before .before .strict-into .ensures in let w = listing-tells (x .moves) _ (x .into) _ (c .before .before .before .s .given .1) in let h = c .before .before .before .before .before .before .before .before .before .before .before .pre .0 in (passed-board (c .before .before .before .before .before .before .before .before .before .before .before .args .b) h, (let k = passed-room (c .before .before .before .before .before .before .before .before .before .before .before .args .b) h in omega (arith, ap length (c .before .before .before .before .before .before .before .before .before .before .before .pre .1))), omega (arith, ap length (written-is w), w .fits, c .before .before .before .before .before .before .before .before .before .before .before .pre .2))
 
 enum-told : tie.Need-enum-told
 enum-told c = search needs
@@ -39,19 +42,19 @@ same-length : tie.Need-same-length
 same-length c = search needs
 
 returns : tie.Need-returns
-returns c = let x = c .before .before .before .before .before .before .before .before .strict-into .ensures in strict-shown (c .before .before .before .before .before .before .before .before .before .before .before .before .args .b) _ (x .moves) (x .exact (c .before .before .before .before .before .before .before .before .before .before .before .before .pre .0)) _ _ _ _ _ (strict-told (c .before .before .before .before .before .before .before .before .before .before .before .before .args .b) (c .before .before .before .before .before .before .before .before .before .before .before .before .args .strict .now) _ _ x (c .before .before .before .before .before .before .before .before .before .before .before .before .pre .2) _ (c .before .before .before .before .s .given .1)) (c .put-lists .ensures)
+returns c = strict-shown (c .before .before .before .before .before .before .before .before .before .before .before .before .args .b) (c .before .before .before .before .before .before .before .before .before .before .before .before .pre .0) (c .before .before .before .before .before .before .before .before .before .before .before .before .pre .2) _ (c .before .before .before .before .before .before .before .before .strict-into .ensures) _ (c .before .before .before .before .s .given .1) _ (c .before .before .before .before .before .before .before .before .before .before .before .before .pre .1) (c .put-lists .ensures)
 
 same-length-2 : tie.Need-same-length-2
 same-length-2 c = search needs
 
 returns-2 : tie.Need-returns-2
-returns-2 c = let x = c .before .before .before .before .before .before .strict-into .ensures in strict-roomless (c .before .before .before .before .before .before .before .before .before .before .args .b) _ (x .moves) (x .exact (c .before .before .before .before .before .before .before .before .before .before .pre .0)) _ _ (strict-told (c .before .before .before .before .before .before .before .before .before .before .args .b) (c .before .before .before .before .before .before .before .before .before .before .args .strict .now) _ _ x (c .before .before .before .before .before .before .before .before .before .before .pre .2) _ (c .before .before .enum-told .given .1) .1) (c .put-refused .ensures)
+returns-2 c = strict-roomless (c .before .before .before .before .before .before .before .before .before .before .args .b) (c .before .before .before .before .before .before .before .before .before .before .pre .0) (c .before .before .before .before .before .before .before .before .before .before .pre .2) _ (c .before .before .before .before .before .before .strict-into .ensures) _ (c .before .before .enum-told .given .1) (c .put-refused .ensures)
 
 same-length-3 : tie.Need-same-length-3
 same-length-3 c = search needs
 
 returns-3 : tie.Need-returns-3
-returns-3 c = let h = strict-told (c .before .before .before .before .before .before .before .before .before .before .before .args .b) (c .before .before .before .before .before .before .before .before .before .before .before .args .strict .now) _ _ (c .before .before .before .before .before .before .before .strict-into .ensures) (c .before .before .before .before .before .before .before .before .before .before .before .pre .2) _ (c .before .before .before .s2 .given .1) in absurd (never _ (sym h ∙ c .before .before .before .before .before .before .before .before .before .before .before .pre .0))
+returns-3 c = let x = c .before .before .before .before .before .before .before .strict-into .ensures in let w = listing-tells (x .moves) _ (x .into) _ (c .before .before .before .s2 .given .1) in absurd (never-failed (c .before .before .before .before .before .before .before .before .before .before .before .args .b) (passed-board (c .before .before .before .before .before .before .before .before .before .before .before .args .b) (c .before .before .before .before .before .before .before .before .before .before .before .pre .0)) w)
 
 pub put-strict-spec : {M : Type 1} → statement M
 put-strict-spec =
