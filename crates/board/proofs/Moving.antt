@@ -14,7 +14,7 @@ use Rattle.laws.specs.Attacks.{unionOf, checkersOf, pinsOf}
 use Rattle.laws.specs.Positions.{Rights, Pos, rightsOf}
 use Rattle.laws.specs.Acceptance.{kingsOk, accepted}
 use Rattle.laws.specs.Unmaking.{unmade}
-use Rattle.laws.specs.Boards.{menAt, Clean, Board, boardOf}
+use Rattle.laws.specs.Boards.{menAt, kindSets, colorSets, Clean, Board, boardOf}
 use Rattle.accept.specs.declared.Refusal.the-variants.{Stale, Source, Target, Held, Step}
 use Rattle.accept.specs.declared.Verdict.the-variants.{Accepted}
 use Rattle.accept.specs.Verdicts.{verdictNumber, unless, andThen, fiveOf}
@@ -26,7 +26,7 @@ use Rattle.unmake.specs.declared.Unmade.{Unmade}
 use Rattle.unmake.specs.Retracted.{answered, refused, sourceFor, targetFor, heldFor, stepFor, unmadeFor, steppedTo, unmadeTo}
 use Rattle.replay.specs.Replayed.{replayedFor, replayTo}
 use Rattle.incremental.specs.Moved.{rustMoved}
-use Rattle.incremental.specs.Found.{foundStored}
+use Rattle.incremental.specs.Found.{foundStored, rustUnmade}
 use Rattle.board.specs.declared.RetractableBoard.{RetractableBoard}
 use Rattle.board.specs.Gate.{menOn, posOn, toLaws, freshBy, gateOf, boardTests, boardedBy}
 use Rattle.board.specs.Answers.{workedOf, withPassant}
@@ -38,6 +38,7 @@ use Rattle.laws.proofs.Retracting.{kindToday, canRetract, back}
 use Rattle.laws.proofs.Passes.{Passes}
 use Rattle.laws.proofs.Onwards.{kings-on}
 use Rattle.incremental.proofs.SameMoved.{moved-same}
+use Rattle.incremental.proofs.SameBoard.{clean-same}
 use Rattle.accept.proofs.Saying.{then-numbers, then-number, five-number}
 use Rattle.accept.proofs.Numbered.{five-passes, both-accept, test-passes}
 use Rattle.unmake.proofs.Returned.{accepted-can, answer-is, unmade-shown, unmade-clean, unmade-five}
@@ -99,39 +100,51 @@ module _ (b : RetractableBoard) (r : ChessRetraction) (h : gateOf b ≡ Accepted
     pub source-on : r .source < 64
     source-on = back (posOn b) r can .can .source-in
 
-    kings-there : kingsOk (menAt (unmadeFor (posOn b) r .pieces) (unmadeFor (posOn b) r .colors)) ≡ true
-    kings-there = passes-by (unmadeFor (posOn b) r) five .kings
+    shown : menAt (unmadeFor (posOn b) r .pieces) (unmadeFor (posOn b) r .colors) ≡ unmade (posOn b) r .men
+    shown = ap (λ (q : Pos). q .men) (unmade-shown (placedOn b) r can)
 
-    -- a board whose sets went back by the Rust's statements
-    module _ (ok : Clean (b .pieces) (b .colors)) (z : RetractableBoard) (e : toLaws z ≡ rustMoved (toLaws b) r) where
-      moved-to : toLaws z ≡ foundStored (boardOf (unmade (posOn b) r)) 0 0
-      moved-to = e ∙ moved-same (toLaws b) r ok (gate-passed b h .union-is) lawful can
+    -- the board before the retraction has the fields of the Laws' one board of the un-made position
+    worked-shown : toLaws (unmadeOn b r) ≡ boardOf (unmade (posOn b) r)
+    unfolding unmadeFor positionOf
+    worked-shown =
+        ap (λ (m : Men). record {
+          pieces = kindSets (unmade (posOn b) r .men);
+          colors = colorSets (unmade (posOn b) r .men);
+          combined = unionOf m;
+          turn = unmadeFor (posOn b) r .turn;
+          white = unmadeFor (posOn b) r .white;
+          black = unmadeFor (posOn b) r .black;
+          pinned = pinsOf m (unmadeFor (posOn b) r .turn);
+          checkers = checkersOf m (unmadeFor (posOn b) r .turn);
+          passant = unmadeFor (posOn b) r .passant;
+        }) shown
 
-      -- its men are clean and have their kings
-      pub moved-sound : Clean (z .pieces) (z .colors) × (kingsOk (menOn z) ≡ true)
-      unfolding foundStored unmadeFor positionOf
-      moved-sound =
-          subst (λ (x : Board). Clean (x .pieces) (x .colors) × (kingsOk (menAt (x .pieces) (x .colors)) ≡ true)) (sym moved-to)
-          (unmade-clean (placedOn b) r can, kings-there)
+    module _ (ok : Clean (b .pieces) (b .colors)) where
+      -- it is what the Rust's `make_retraction_new` answers, whole
+      pub unmade-rust : toLaws (unmadeOn b r) ≡ rustUnmade (toLaws b) r
+      unmade-rust = worked-shown ∙ sym (clean-same (toLaws b) r ok (gate-passed b h .union-is) lawful can)
 
-      -- with checkers and pins worked afresh it is the board before the retraction
-      pub searched-is : (x : RetractableBoard) → toLaws x ≡ foundStored (toLaws z) (checkersOf (menOn z) (z .turn)) (pinsOf (menOn z) (z .turn)) → x ≡ unmadeOn b r
-      unfolding foundStored unmadeFor positionOf
-      searched-is x f =
-          laws-one x (unmadeOn b r)
-          (f
-          ∙ ap (λ (y : Board). foundStored y (checkersOf (menAt (y .pieces) (y .colors)) (y .turn)) (pinsOf (menAt (y .pieces) (y .colors)) (y .turn))) moved-to
-          ∙ ap (λ (m : Men). record {
-            pieces = unmadeFor (posOn b) r .pieces;
-            colors = unmadeFor (posOn b) r .colors;
-            combined = unionOf m;
-            turn = unmadeFor (posOn b) r .turn;
-            white = unmadeFor (posOn b) r .white;
-            black = unmadeFor (posOn b) r .black;
-            pinned = unmadeOn b r .pinned;
-            checkers = unmadeOn b r .checkers;
-            passant = unmadeFor (posOn b) r .passant;
-          }) (sym (ap (λ (q : Pos). q .men) (unmade-shown (placedOn b) r can))))
+      -- a board whose sets went back by the Rust's statements
+      module _ (z : RetractableBoard) (e : toLaws z ≡ rustMoved (toLaws b) r) where
+        moved-to : toLaws z ≡ foundStored (boardOf (unmade (posOn b) r)) 0 0
+        moved-to = e ∙ moved-same (toLaws b) r ok (gate-passed b h .union-is) lawful can
+
+        -- its men are clean and have their kings
+        pub moved-sound : Clean (z .pieces) (z .colors) × (kingsOk (menOn z) ≡ true)
+        unfolding foundStored unmadeFor positionOf
+        moved-sound =
+            subst (λ (x : Board). Clean (x .pieces) (x .colors) × (kingsOk (menAt (x .pieces) (x .colors)) ≡ true)) (sym moved-to)
+            (unmade-clean (placedOn b) r can, passes-by (unmadeFor (posOn b) r) five .kings)
+
+        -- with checkers and pins worked afresh it is the board before the retraction
+        pub searched-is : (x : RetractableBoard) → toLaws x ≡ foundStored (toLaws z) (checkersOf (menOn z) (z .turn)) (pinsOf (menOn z) (z .turn)) → x ≡ unmadeOn b r
+        unfolding foundStored unmadeFor positionOf
+        searched-is x f =
+            laws-one x (unmadeOn b r)
+            (f
+            ∙ ap (λ (y : Board). foundStored y (checkersOf (menAt (y .pieces) (y .colors)) (y .turn)) (pinsOf (menAt (y .pieces) (y .colors)) (y .turn))) moved-to
+            ∙ ap (λ (m : Men). foundStored (boardOf (unmade (posOn b) r)) (checkersOf m (unmade (posOn b) r .turn)) (pinsOf m (unmade (posOn b) r .turn))) shown
+            ∙ sym worked-shown)
 
 -- replay answers only a possible move
 did : (p : Pos) (r : ChessRetraction) (k : ℕ) → replayTo p r k .verdict ≡ Accepted → possibleFor p r k ≡ true

@@ -15,7 +15,7 @@ ghost use Rattle.board.specs.Gate.{freshBy, staleAfter, gateOf, keptBy, 
 ghost use Rattle.board.specs.Answers.{workedOf, newOf, askGate, stateGate};
 ghost use Rattle.board.specs.Moving.{earlierOf};
 
-pub mod moving; // moving.rt: un-make and replay of a board
+pub mod moving; // moving.rt: what un-make refuses, and replay of a board
 
 // The board where nothing is refused, else the empty one.
 pub fn kept(v: Verdict, b: RetractableBoard) -> RetractableBoard
