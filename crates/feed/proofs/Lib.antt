@@ -1,3 +1,5 @@
 pub mod Cuts
+pub mod Kept
 pub mod Searched
+pub mod Input
 pub mod Added
