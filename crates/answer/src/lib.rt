@@ -1,9 +1,6 @@
 // The answer to a line of input: its text and the two lists of its board, or its refusal.
 use accept::Refusal;
 use accept::Verdict;
-use board::RetractableBoard;
-use listing::Listed;
-use text::Printed;
 ghost use Rattle.accept.specs.Verdicts.{numberOf};
 ghost use Rattle.answer.specs.Replies.{refusedText, Shows, Replies};
 

@@ -1,7 +1,5 @@
 -- `answer::put_refused` meets its contract.
-use mathlib.Core.Path.{_≡_}
 use native.Mathlib.Omega.{arith}
-use lib.ListN.{length}
 use borrow.Author.Needs.{needs}
 use denote.Ref.{now}
 use Rattle.feed.proofs.Added.{used-adds}
@@ -40,7 +38,7 @@ used-requires-3 : tie.Need-used-requires-3
 used-requires-3 c κs = search needs
 
 returns : tie.Need-returns
-returns c = refused-shown (c .before .before .before .before .before .before .before .before .before .before .before .before .args .r) (now (c .before .before .before .before .before .before .before .before .before .before .before .before .args .out)) _ _ _ _ _ _ _ _ (let e : length (now (c .before .before .before .before .before .before .before .before .before .before .before .before .args .out)) ≡ 196608 = search needs in e) (omega (arith, c .before .before .before .before .before .before .before .number .ok)) (used-adds _ _ _ _ _ (c .before .before .before .before .before .before .before .before .before .put-bytes .ensures) _ (c .before .before .before .before .before .before .before .before .used .ensures)) (c .before .before .before .before .before .before .before .number .ensures) (c .before .before .before .before .before .put-decimal .ensures) (c .before .before .before .before .used2 .ensures) (used-adds _ _ _ _ _ (c .before .put-bytes2 .ensures) _ (c .used3 .ensures))
+returns c = refused-shown (c .before .before .before .before .before .before .before .before .before .before .before .before .args .r) (now (c .before .before .before .before .before .before .before .before .before .before .before .before .args .out)) _ _ _ _ _ _ _ _ (search needs) (omega (arith, c .before .before .before .before .before .before .before .number .ok)) (used-adds _ _ _ _ _ (c .before .before .before .before .before .before .before .before .before .put-bytes .ensures) _ (c .before .before .before .before .before .before .before .before .used .ensures)) (c .before .before .before .before .before .before .before .number .ensures) (c .before .before .before .before .before .put-decimal .ensures) (c .before .before .before .before .used2 .ensures) (used-adds _ _ _ _ _ (c .before .put-bytes2 .ensures) _ (c .used3 .ensures))
 
 pub put-refused-spec : {M : Type 1} → statement M
 put-refused-spec =

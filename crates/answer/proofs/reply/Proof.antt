@@ -1,7 +1,4 @@
 -- `answer::reply` meets its contract.
-use mathlib.Core.Path.{_≡_}
-use lib.ListN.{length}
-use denote.Ref.{now}
 use Rattle.text.proofs.RoundTrip.{read-accepted}
 use Rattle.answer.proofs.Spoken.{reply-refused, reply-accepted}
 use borrow.Author.Needs.{needs}
@@ -21,7 +18,7 @@ enum-told : tie.Need-enum-told
 enum-told c = search needs
 
 put-board-requires : tie.Need-put-board-requires
-put-board-requires c κs = (read-accepted _ _ (c .before .before .before .before .before .before .read .ensures) (c .before .before .before .before .enum-told .given .1) .0, (let e : length (now (c .before .before .before .before .before .before .before .before .args .listed)) ≡ 8192 = search needs in e), (let e : length (now (c .before .before .before .before .before .before .before .before .args .strict)) ≡ 8192 = search needs in e))
+put-board-requires c κs = (read-accepted _ _ (c .before .before .before .before .before .before .read .ensures) (c .before .before .before .before .enum-told .given .1) .0, search needs, search needs)
 
 returns : tie.Need-returns
 returns c = reply-refused _ _ (c .before .before .before .before .before .read .ensures) _ (c .before .before .before .v .given .1) (c .put-refused .ensures)

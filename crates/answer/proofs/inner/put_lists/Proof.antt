@@ -1,6 +1,4 @@
 -- `answer::inner::put_lists` meets its contract.
-use mathlib.Core.Path.{_≡_}
-use lib.ListN.{length}
 use borrow.Author.Needs.{needs}
 use denote.Ref.{now}
 use Rattle.feed.proofs.Added.{used-adds}
@@ -40,10 +38,10 @@ put-refused-requires : tie.Need-put-refused-requires
 put-refused-requires c κs = search needs
 
 returns : tie.Need-returns
-returns c = lists-shown (c .before .before .before .before .before .before .before .before .before .before .before .before .before .before .args .b) (now (c .before .before .before .before .before .before .before .before .before .before .before .before .before .before .args .out)) _ _ (let e : length (now (c .before .before .before .before .before .before .before .before .before .before .before .before .before .before .args .out)) ≡ 196608 = search needs in e) _ _ (c .before .before .before .before .before .before .before .before .before .before .before .before .before .before .pre .1) (c .before .before .before .before .before .before .before .before .before .before .before .before .before .before .pre .2) _ _ _ _ (printing-tells (c .before .before .before .before .before .before .before .before .before .before .before .before .before .before .args .b) _ (c .before .before .before .before .before .before .before .before .before .before .print .ensures) _ (c .before .before .before .before .before .before .before .before .p .given .1)) (used-adds _ _ _ _ _ (c .before .before .before .before .put-bytes .ensures) _ (c .before .before .before .used .ensures)) (used-adds _ _ _ _ _ (c .before .report .ensures) _ (c .used2 .ensures))
+returns c = lists-shown (c .before .before .before .before .before .before .before .before .before .before .before .before .before .before .args .b) (now (c .before .before .before .before .before .before .before .before .before .before .before .before .before .before .args .out)) _ _ (search needs) _ _ (c .before .before .before .before .before .before .before .before .before .before .before .before .before .before .pre .1) (c .before .before .before .before .before .before .before .before .before .before .before .before .before .before .pre .2) _ _ _ _ (printing-tells (c .before .before .before .before .before .before .before .before .before .before .before .before .before .before .args .b) _ (c .before .before .before .before .before .before .before .before .before .before .print .ensures) _ (c .before .before .before .before .before .before .before .before .p .given .1)) (used-adds _ _ _ _ _ (c .before .before .before .before .put-bytes .ensures) _ (c .before .before .before .used .ensures)) (used-adds _ _ _ _ _ (c .before .report .ensures) _ (c .used2 .ensures))
 
 returns-2 : tie.Need-returns-2
-returns-2 c = absurd (never-room (c .before .before .before .before .before .before .args .b) (now (c .before .before .before .before .before .before .args .out)) _ _ (let e : length (now (c .before .before .before .before .before .before .args .out)) ≡ 196608 = search needs in e) (printing-tells (c .before .before .before .before .before .before .args .b) _ (c .before .before .print .ensures) _ (c .enum-told .given .1)))
+returns-2 c = absurd (never-room (c .before .before .before .before .before .before .args .b) (now (c .before .before .before .before .before .before .args .out)) _ _ (search needs) (printing-tells (c .before .before .before .before .before .before .args .b) _ (c .before .before .print .ensures) _ (c .enum-told .given .1)))
 
 returns-3 : tie.Need-returns-3
 returns-3 c = absurd (never-failed (c .before .before .before .before .before .before .before .before .before .args .b) (c .before .before .before .before .before .before .before .before .before .pre .0) (printing-tells (c .before .before .before .before .before .before .before .before .before .args .b) _ (c .before .before .before .before .before .print .ensures) _ (c .before .before .before .p2 .given .1)))
