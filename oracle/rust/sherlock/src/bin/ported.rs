@@ -3,6 +3,8 @@
 //!   ported unmake   -> input "<text>\t<packed>", answer: the un-made board, its checkers and pins as hex
 //!   ported entries -> the six uncapture masks (hex), then each entry source:targets(hex):O|N|F|E (optional, necessary, forbidden, un-en-passant):=|.
 //!   ported tables   -> (no input) between/line for each pair, knight/king/pawn/ray sets
+//!   ported sliders  -> input: an occupied set (16 hex digits), answer: for each square a line "rook <square> <occupied> <set>" of what a rook
+//!                      there reaches, and such a line of a bishop and of a queen
 //!   ported limited  -> "<0|1> <longest list built>"
 //!   ported masks    -> the six uncapture masks (hex) alone
 //!   ported attacked -> two hex sets: squares attacked by White, by Black; of "<text>\t<square>\t<w|b>": 1 or 0
@@ -80,6 +82,12 @@ fn press(l: &str) -> String {
 const KINDS: [Option<Piece>; 6] = [None, Some(Piece::Pawn), Some(Piece::Knight), Some(Piece::Bishop), Some(Piece::Rook), Some(Piece::Queen)];
 fn pack(r: &ChessRetraction) -> usize {
     r.source().to_index() + 64 * r.target().to_index() + 4096 * r.uncaptured().map_or(0, |p| p.to_index() + 1) + if r.unpromotion() { 32768 } else { 0 }
+}
+/// What the sliders reach from one square, a line each.
+fn sliders(a: u8, occupied: u64) -> [String; 3] {
+    let rook = get_rook_moves(Square::new(a), BitBoard(occupied)).0;
+    let bishop = get_bishop_moves(Square::new(a), BitBoard(occupied)).0;
+    [("rook", rook), ("bishop", bishop), ("queen", rook | bishop)].map(|(name, set)| format!("{} {} {:016x} {:016x}", name, a, occupied, set))
 }
 fn main() {
     let mode = std::env::args().nth(1).unwrap_or("list".into());
@@ -180,6 +188,11 @@ fn main() {
                 }
             }
             "cursor" => write!(out, "{}", press(&l)).unwrap(),
+            "sliders" => {
+                let occupied = u64::from_str_radix(&l, 16).unwrap();
+                let lines: Vec<String> = (0..64).flat_map(|a| sliders(a, occupied)).collect();
+                write!(out, "{}", lines.join("\n")).unwrap();
+            }
             "unmake" => {
                 let (t, p) = l.split_once('\t').unwrap();
                 let p: usize = p.parse().unwrap();
