@@ -1,13 +1,10 @@
-// Refusals 1 to 6 in order. `t` is the table of squares between, lent.
+// Refusals 1 to 6 in order.
 use super::Refusal;
 use super::Verdict;
 use laws::CastleRights;
 use laws::Color;
 use laws::EnPassantFlag;
 ghost use mathlib.Core.Path.{_≡_};
-ghost use mathlib.Core.Bool.{true};
-ghost use Rattle.geometry.specs.Lines.{IsBetween};
-ghost use Rattle.laws.specs.Acceptance.{kingsOk};
 ghost use Rattle.laws.specs.Positions.{rightsOf};
 ghost use Rattle.laws.specs.Boards.{menAt, Clean};
 ghost use Rattle.accept.specs.Verdicts.{firstOf, thirdOf, fiveOf, judgedOf};
@@ -70,7 +67,6 @@ pub fn five(
 
 // Refusals 1 to 6: how raw men come in.
 pub fn judge(
-    t: &[u64; 4096],
     pieces: [u64; 6],
     colors: [u64; 2],
     turn: Color,
@@ -78,14 +74,13 @@ pub fn judge(
     black: CastleRights,
     passant: EnPassantFlag,
 ) -> Verdict
-    requires { ⌜ IsBetween (now t) ⌝ }
     ensures { λ v. ⌜ v ≡ judgedOf pieces colors turn (rightsOf white black) passant ⌝ }
 {
     let v = five(pieces, colors, turn, white, black, passant);
     match v {
         Verdict::Refused(r) => Verdict::Refused(r),
         Verdict::Accepted => {
-            if pins::inner::bad_check(t, pieces, colors, turn) {
+            if pins::inner::bad_check(pieces, colors, turn) {
                 return Verdict::Refused(Refusal::Check);
             }
             Verdict::Accepted

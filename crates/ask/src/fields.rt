@@ -45,20 +45,12 @@ pub(super) fn past(line: &[u8], at: usize, n: usize) -> usize {
     to
 }
 
-fn hex_digit(b: u8) -> u64 {
-    match b {
-        b'0'..=b'9' => (b - b'0') as u64,
-        b'a'..=b'f' => (b - b'a') as u64 + 10,
-        _ => 16,
-    }
-}
-
 // A hexadecimal number, up to the first byte that is no digit.
 pub(super) fn hex(line: &[u8], at: usize) -> u64 {
     let mut x = 0u64;
     let mut i = at;
     while i < line.len() {
-        let d = hex_digit(line[i]);
+        let d = feed::hex_digit(line[i]);
         if d > 15 {
             return x;
         }

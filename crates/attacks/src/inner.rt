@@ -1,8 +1,7 @@
-// The attackers of a square (the Rust's `is_attacked`, as a set). `t` is the table of squares between, lent.
+// The attackers of a square (the Rust's `is_attacked`, as a set).
 use laws::Color;
 ghost use mathlib.Core.Path.{_≡_};
 ghost use Prim.Native.Nat.{_<_};
-ghost use Rattle.geometry.specs.Lines.{IsBetween};
 ghost use Rattle.laws.specs.Attacks.{attackersOf, attacked};
 ghost use Rattle.laws.specs.Boards.{menAt, Clean};
 ghost use Rattle.attacks.specs.Meeting.{metOf};
@@ -28,14 +27,14 @@ pub fn met(
 }
 
 // The men of a colour that attack a square.
-pub fn attackers(t: &[u64; 4096], pieces: [u64; 6], colors: [u64; 2], sq: u8, color: Color) -> u64
-    requires { ⌜ IsBetween (now t) × Clean pieces colors × (sq < 64) ⌝ }
+pub fn attackers(pieces: [u64; 6], colors: [u64; 2], sq: u8, color: Color) -> u64
+    requires { ⌜ Clean pieces colors × (sq < 64) ⌝ }
     ensures { λ r. ⌜ r ≡ attackersOf (menAt pieces colors) color sq ⌝ }
 {
     let c = men::inner::color_place(color);
     let occ = men::inner::occupied(pieces, colors);
-    let diagonal = tables::inner::get_bishop_moves(t, sq, occ);
-    let straight = tables::inner::get_rook_moves(t, sq, occ);
+    let diagonal = sliding::inner::get_bishop_moves(sq, occ);
+    let straight = sliding::inner::get_rook_moves(sq, occ);
     let pawn = tables::inner::get_pawn_attacks(geometry::other(color), sq);
     let knight = tables::inner::get_knight_moves(sq);
     let king = tables::inner::get_king_moves(sq);
@@ -43,15 +42,9 @@ pub fn attackers(t: &[u64; 4096], pieces: [u64; 6], colors: [u64; 2], sq: u8, co
 }
 
 // Whether a man of a colour attacks a square.
-pub fn is_attacked(
-    t: &[u64; 4096],
-    pieces: [u64; 6],
-    colors: [u64; 2],
-    sq: u8,
-    color: Color,
-) -> bool
-    requires { ⌜ IsBetween (now t) × Clean pieces colors × (sq < 64) ⌝ }
+pub fn is_attacked(pieces: [u64; 6], colors: [u64; 2], sq: u8, color: Color) -> bool
+    requires { ⌜ Clean pieces colors × (sq < 64) ⌝ }
     ensures { λ r. ⌜ r ≡ attacked (menAt pieces colors) color sq ⌝ }
 {
-    attackers(t, pieces, colors, sq, color) != 0
+    attackers(pieces, colors, sq, color) != 0
 }

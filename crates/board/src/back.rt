@@ -216,7 +216,7 @@ impl RetractableBoard {
         let pieces = self.pieces;
         let colors = self.colors;
         let turn = self.turn;
-        self.checkers = pins::inner::checkers(t, pieces, colors, turn);
+        self.checkers = pins::inner::checkers(pieces, colors, turn);
         self.pinned = pins::inner::pins(t, pieces, colors, turn);
         self
     }

@@ -49,7 +49,7 @@ pub fn stale(
     ensures { λ r. ⌜ r ≡ not (freshBy (menAt pieces colors) turn combined checkers pinned) ⌝ }
 {
     let men = men::inner::occupied(pieces, colors);
-    let checks = pins::inner::checkers(t, pieces, colors, turn);
+    let checks = pins::inner::checkers(pieces, colors, turn);
     let pins = pins::inner::pins(t, pieces, colors, turn);
     !((combined == men) & (checkers == checks) & (pinned == pins))
 }
@@ -90,7 +90,7 @@ pub fn gate(t: &[u64; 4096], b: RetractableBoard) -> Verdict
     let white = b.white;
     let black = b.black;
     let passant = b.passant;
-    let v = accept::inner::judge(t, pieces, colors, turn, white, black, passant);
+    let v = accept::inner::judge(pieces, colors, turn, white, black, passant);
     stale_after(t, v, pieces, colors, turn, b.combined, b.checkers, b.pinned)
 }
 
@@ -145,7 +145,7 @@ pub fn worked(
     ensures { λ r. ⌜ r ≡ workedOf pieces colors turn white black passant ⌝ }
 {
     let combined = men::inner::occupied(pieces, colors);
-    let checkers = pins::inner::checkers(t, pieces, colors, turn);
+    let checkers = pins::inner::checkers(pieces, colors, turn);
     let pinned = pins::inner::pins(t, pieces, colors, turn);
     RetractableBoard {
         pieces,
@@ -196,7 +196,7 @@ pub fn board_from(
     requires { ⌜ IsBetween (now t) ⌝ }
     ensures { λ r. ⌜ r ≡ newOf pieces colors turn white black passant ⌝ }
 {
-    let v = accept::inner::judge(t, pieces, colors, turn, white, black, passant);
+    let v = accept::inner::judge(pieces, colors, turn, white, black, passant);
     worked_after(t, v, pieces, colors, turn, white, black, passant)
 }
 

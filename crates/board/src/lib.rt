@@ -145,7 +145,7 @@ impl RetractableBoard {
             Verdict::Accepted => {
                 let pieces = self.pieces;
                 let colors = self.colors;
-                let answer = told(attacks::inner::is_attacked(&t, pieces, colors, sq, color));
+                let answer = told(attacks::inner::is_attacked(pieces, colors, sq, color));
                 AttackTold {
                     answer,
                     board: self,

@@ -7,6 +7,7 @@ ghost use Rattle.feed.specs.declared.Step.the-variants.{Line};
 ghost use Rattle.feed.specs.Splitting.{Fit, isOpen, cursorOf, openedAt, endingOf, filledOf, Turns};
 ghost use Rattle.feed.specs.Reading.{unreadAt, stepFor, Gives};
 ghost use Rattle.feed.specs.Appending.{usedOf, Puts, PutsDecimal};
+ghost use Rattle.feed.specs.Digits.{hexDigit};
 
 pub mod inner; // inner.rt: a line cut out of what was read, and a copy into a buffer
 
@@ -162,6 +163,17 @@ fn line_of(p: Part) -> Step
             at: p.at,
             end: p.end,
         },
+    }
+}
+
+// What a hexadecimal digit stands for, 16 for any other byte.
+pub fn hex_digit(b: u8) -> u64
+    ensures { λ r. ⌜ r ≡ hexDigit b ⌝ }
+{
+    match b {
+        b'0'..=b'9' => (b - b'0') as u64,
+        b'a'..=b'f' => (b - b'a') as u64 + 10,
+        _ => 16,
     }
 }
 

@@ -9,12 +9,12 @@ ghost use Rattle.scene.specs.Scenes.{Ready};
 ghost use Rattle.kings.specs.Kings.{farOf, nearOf, attackedOf, stepsOf, steppedOf, safeOf, castledOf, shortOf, longOf, uncastledOf, kingOf};
 
 // The rooks, bishops and queens of the side to move that see sq.
-fn far(t: &[u64; 4096], s: Scene, sq: u8) -> u64
-    requires { ⌜ Ready (now t) s × (sq < 64) ⌝ }
+fn far(s: Scene, sq: u8) -> u64
+    requires { ⌜ sq < 64 ⌝ }
     ensures { λ r. ⌜ r ≡ farOf s sq ⌝ }
 {
-    let rook = tables::inner::get_rook_moves(t, sq, s.combined);
-    let bishop = tables::inner::get_bishop_moves(t, sq, s.combined);
+    let rook = sliding::inner::get_rook_moves(sq, s.combined);
+    let bishop = sliding::inner::get_bishop_moves(sq, s.combined);
     let b = s.foes[2];
     let r = s.foes[3];
     let q = s.foes[4];
@@ -37,11 +37,11 @@ fn near(s: Scene, sq: u8) -> u64
 }
 
 // `is_attacked(board, sq, !retracting_color)`
-fn is_attacked(t: &[u64; 4096], s: Scene, sq: u8) -> bool
-    requires { ⌜ Ready (now t) s × (sq < 64) ⌝ }
+fn is_attacked(s: Scene, sq: u8) -> bool
+    requires { ⌜ sq < 64 ⌝ }
     ensures { λ r. ⌜ r ≡ attackedOf s sq ⌝ }
 {
-    let a = far(t, s, sq);
+    let a = far(s, sq);
     let b = near(s, sq);
     a | b != 0
 }
@@ -73,32 +73,32 @@ fn stepped(list: RetractionList, t: &[u64; 4096], s: Scene, targets: u64) -> Ret
     roll::inner::offer(one, s.king, targets & !may, UnCaptureKind::Necessary, false)
 }
 
-fn safe(t: &[u64; 4096], s: Scene, rook: u8, e: u8) -> bool
-    requires { ⌜ Ready (now t) s × (rook < 64) × (e < 64) ⌝ }
+fn safe(s: Scene, rook: u8, e: u8) -> bool
+    requires { ⌜ (rook < 64) × (e < 64) ⌝ }
     ensures { λ r. ⌜ r ≡ safeOf s rook e ⌝ }
 {
-    let a = is_attacked(t, s, rook);
-    let b = is_attacked(t, s, e);
+    let a = is_attacked(s, rook);
+    let b = is_attacked(s, e);
     !a & !b
 }
 
 // The king may have come from e over the rook's square, and the rook from the corner.
-fn castled(t: &[u64; 4096], s: Scene, n: u32, rook: u8, e: u8, corner: u8) -> bool
-    requires { ⌜ Ready (now t) s × (rook < 64) × (e < 64) ⌝ }
+fn castled(s: Scene, n: u32, rook: u8, e: u8, corner: u8) -> bool
+    requires { ⌜ (s .oppking < 64) × (rook < 64) × (e < 64) ⌝ }
     ensures { λ r. ⌜ r ≡ castledOf s n rook e corner ⌝ }
 {
     let stands = squares::has(s.men[3], rook);
     let home = squares::has(s.combined, e);
     let taken = squares::has(s.combined, corner);
-    let calm = safe(t, s, rook, e);
-    let rays = tables::inner::get_rook_moves(t, s.oppking, s.combined);
+    let calm = safe(s, rook, e);
+    let rays = sliding::inner::get_rook_moves(s.oppking, s.combined);
     let sees = squares::has(rays, corner);
     let checks = squares::has(s.checkers, rook);
     stands & !home & !taken & calm & !sees & ((n == 0) | checks)
 }
 
-fn short(t: &[u64; 4096], s: Scene, n: u32) -> bool
-    requires { ⌜ Ready (now t) s ⌝ }
+fn short(s: Scene, n: u32) -> bool
+    requires { ⌜ s .oppking < 64 ⌝ }
     ensures { λ r. ⌜ r ≡ shortOf s n ⌝ }
 {
     let color = s.color;
@@ -106,12 +106,12 @@ fn short(t: &[u64; 4096], s: Scene, n: u32) -> bool
     let rook = scene::inner::home_square(color, 5);
     let e = scene::inner::home_square(color, 4);
     let corner = scene::inner::home_square(color, 7);
-    let free = castled(t, s, n, rook, e, corner);
+    let free = castled(s, n, rook, e, corner);
     (s.king == king) & free
 }
 
-fn long(t: &[u64; 4096], s: Scene, n: u32) -> bool
-    requires { ⌜ Ready (now t) s ⌝ }
+fn long(s: Scene, n: u32) -> bool
+    requires { ⌜ s .oppking < 64 ⌝ }
     ensures { λ r. ⌜ r ≡ longOf s n ⌝ }
 {
     let color = s.color;
@@ -121,17 +121,17 @@ fn long(t: &[u64; 4096], s: Scene, n: u32) -> bool
     let b = scene::inner::home_square(color, 1);
     let corner = scene::inner::home_square(color, 0);
     let blocked = squares::has(s.combined, b);
-    let free = castled(t, s, n, rook, e, corner);
+    let free = castled(s, n, rook, e, corner);
     (s.king == king) & !blocked & free
 }
 
-fn uncastled(list: RetractionList, t: &[u64; 4096], s: Scene, n: u32) -> RetractionList
-    requires { ⌜ Ready (now t) s ⌝ }
+fn uncastled(list: RetractionList, s: Scene, n: u32) -> RetractionList
+    requires { ⌜ s .oppking < 64 ⌝ }
     ensures { λ r. ⌜ r ≡ pushedAll list (uncastledOf s n) ⌝ }
 {
     let color = s.color;
-    let a = short(t, s, n);
-    let b = long(t, s, n);
+    let a = short(s, n);
+    let b = long(s, n);
     if a | b {
         let e = squares::bit(scene::inner::home_square(color, 4));
         return roll::inner::put(list, s.king, e, UnCaptureKind::Forbidden, false);
@@ -149,5 +149,5 @@ pub fn legals(list: RetractionList, t: &[u64; 4096], s: Scene, n: u32) -> Retrac
     }
     let targets = steps(t, s, n);
     let one = stepped(list, t, s, targets);
-    uncastled(one, t, s, n)
+    uncastled(one, s, n)
 }

@@ -21,7 +21,7 @@ use Rattle.placing.specs.Placed.{manWith, colorBy}
 use Rattle.moves.specs.declared.Way.{Way}
 use Rattle.moves.specs.declared.Way.the-variants.{Plain, Passant, Short, Long}
 use Rattle.moves.specs.Stepping.{wayOf, wayBy, wayFor, movesFor, goesFor, possibleFor}
-use Rattle.squares.proofs.Testing.{both, left, bool-ext}
+use Rattle.squares.proofs.Testing.{both, left, or-false, bool-ext}
 use Rattle.squares.proofs.Comprehension.{has-setOf}
 use Rattle.squares.proofs.Every.{all-cong}
 use Rattle.laws.proofs.Mans.{by-number}
@@ -102,11 +102,6 @@ module _ (m : Men) (c : Color) (t s u : ℕ) (h : s < 64) where
   unfolding movesFor
   king-goes = has-setOf (kingStep t) s h
 
-or-none : (a : Bool) → (a or false) ≡ a
-unfolding _or_
-or-none true = refl
-or-none false = refl
-
 -- a bishop, a rook, a queen, or nothing
 pub slide-goes : (m : Men) (c : Color) (k t s u : ℕ) → k < 7 → (k ≡ 1 → ⊥) → (k ≡ 2 → ⊥) → (k ≡ 6 → ⊥)
     → (slideLine (eqb k 4 or eqb k 5) (eqb k 3 or eqb k 5) t s and clear (bare m) t s) ≡ movesFor m (manWith c k) t s u
@@ -115,7 +110,7 @@ slide-goes m c zero t s u h a b d = refl
 slide-goes m c (suc zero) t s u h a b d = absurd (a refl)
 slide-goes m c (suc (suc zero)) t s u h a b d = absurd (b refl)
 slide-goes m c (suc (suc (suc zero))) t s u h a b d = refl
-slide-goes m c (suc (suc (suc (suc zero)))) t s u h a b d = ap (λ (z : Bool). z and clear (bare m) t s) (or-none (straight t s))
+slide-goes m c (suc (suc (suc (suc zero)))) t s u h a b d = ap (λ (z : Bool). z and clear (bare m) t s) (or-false (straight t s))
 slide-goes m c (suc (suc (suc (suc (suc zero))))) t s u h a b d = refl
 slide-goes m c (suc (suc (suc (suc (suc (suc zero)))))) t s u h a b d = absurd (d refl)
 slide-goes m c (suc (suc (suc (suc (suc (suc (suc n))))))) t s u h a b d = absurd (omega arith)

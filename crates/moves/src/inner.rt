@@ -86,7 +86,7 @@ fn slides_to(t: &[u64; 4096], p: Position, k: u8, from: u8, to: u8) -> bool
     requires { ⌜ (IsBetween (now t) × Clean (p .pieces) (p .colors)) × ((from < 64) × (to < 64)) ⌝ }
     ensures { λ r. ⌜ r ≡ (slideLine (eqb k 4 or eqb k 5) (eqb k 3 or eqb k 5) from to and clear (bare (menIn p)) from to) ⌝ }
 {
-    let on = tables::inner::on_line((k == 4) | (k == 5), (k == 3) | (k == 5), from, to);
+    let on = sliding::inner::lines::on_line((k == 4) | (k == 5), (k == 3) | (k == 5), from, to);
     let path = is_free(t, p, from, to);
     on & path
 }

@@ -18,7 +18,7 @@ fn beside_reborn(s: Scene, src: u8, reborn: u8) -> u64
     let files = scene::inner::adjacent_files(src);
     let near = squares::get_rank(reborn / 8);
     let free = pawns::inner::vacant(s);
-    let l = tables::inner::line(src, s.oppking);
+    let l = sliding::inner::lines::line(src, s.oppking);
     let pin = squares::has(s.pinned, src);
     let on = squares::has(l, reborn);
     if pin & !on {

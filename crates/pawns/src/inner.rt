@@ -112,7 +112,7 @@ fn unpush(s: Scene, ray: u64, src: u8) -> u64
     let to = crossing(s, src, crossed);
     let free = home(s, ray);
     if squares::has(s.pinned, src) {
-        let l = tables::inner::line(src, s.oppking);
+        let l = sliding::inner::lines::line(src, s.oppking);
         return to & free & l;
     }
     to & free

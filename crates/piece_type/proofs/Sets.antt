@@ -12,17 +12,12 @@ use Rattle.squares.specs.Squares.{has, only}
 use Rattle.squares.specs.Members.{allSquares}
 use Rattle.squares.proofs.Digits.{has-and, has-or, has-zero}
 use Rattle.squares.proofs.Comprehension.{ext, empty, has-setOf, upTo-lt}
-use Rattle.squares.proofs.Testing.{both}
+use Rattle.squares.proofs.Testing.{both, and-group}
 
 -- every number is a set of some width
 fits : (n : ℕ) → n < 2 ^ n
 fits zero = zero-lt-suc 0
 fits (suc n) = omega (arith, fits n, two-pow-succ n)
-
-and-group : (a b c : Bool) → ((a and b) and c) ≡ (a and (b and c))
-unfolding _and_
-and-group true b c = refl
-and-group false b c = refl
 
 pub and-assoc : (a b c : ℕ) → bitAnd (bitAnd a b) c ≡ bitAnd a (bitAnd b c)
 and-assoc a b c =

@@ -19,23 +19,23 @@ pub fn king_square(pieces: [u64; 6], colors: [u64; 2], color: Color) -> u8
 }
 
 // The colour is to move. A king never checks, so it is left out.
-pub fn checkers(t: &[u64; 4096], pieces: [u64; 6], colors: [u64; 2], color: Color) -> u64
-    requires { ⌜ IsBetween (now t) × Clean pieces colors × (kingsOk (menAt pieces colors) ≡ true) ⌝ }
+pub fn checkers(pieces: [u64; 6], colors: [u64; 2], color: Color) -> u64
+    requires { ⌜ Clean pieces colors × (kingsOk (menAt pieces colors) ≡ true) ⌝ }
     ensures { λ r. ⌜ r ≡ checkersOf (menAt pieces colors) color ⌝ }
 {
     let q = king_square(pieces, colors, color);
     let d = geometry::other(color);
-    attacks::inner::attackers(t, pieces, colors, q, d) & !pieces[5]
+    attacks::inner::attackers(pieces, colors, q, d) & !pieces[5]
 }
 
 // The bishops, rooks and queens of the colour on a line with q that they move along.
-fn snipers(t: &[u64; 4096], pieces: [u64; 6], colors: [u64; 2], color: Color, q: u8) -> u64
-    requires { ⌜ IsBetween (now t) × Clean pieces colors × (q < 64) ⌝ }
+fn snipers(pieces: [u64; 6], colors: [u64; 2], color: Color, q: u8) -> u64
+    requires { ⌜ Clean pieces colors × (q < 64) ⌝ }
     ensures { λ r. ⌜ r ≡ snipersOf (menAt pieces colors) color q ⌝ }
 {
     let c = men::inner::color_place(color);
-    let diagonal = tables::inner::get_bishop_moves(t, q, 0);
-    let straight = tables::inner::get_rook_moves(t, q, 0);
+    let diagonal = sliding::inner::get_bishop_moves(q, 0);
+    let straight = sliding::inner::get_rook_moves(q, 0);
     attacks::inner::met(pieces, colors[c], 0, 0, diagonal, straight, 0)
 }
 
@@ -71,15 +71,15 @@ pub fn pins(t: &[u64; 4096], pieces: [u64; 6], colors: [u64; 2], color: Color) -
 {
     let q = king_square(pieces, colors, color);
     let d = geometry::other(color);
-    let from = snipers(t, pieces, colors, d, q);
+    let from = snipers(pieces, colors, d, q);
     shields(t, pieces, colors, from, q)
 }
 
 // 6 CHECK, the colour being to move
-pub fn bad_check(t: &[u64; 4096], pieces: [u64; 6], colors: [u64; 2], color: Color) -> bool
-    requires { ⌜ IsBetween (now t) × Clean pieces colors × (kingsOk (menAt pieces colors) ≡ true) ⌝ }
+pub fn bad_check(pieces: [u64; 6], colors: [u64; 2], color: Color) -> bool
+    requires { ⌜ Clean pieces colors × (kingsOk (menAt pieces colors) ≡ true) ⌝ }
     ensures { λ r. ⌜ r ≡ not (quiet (menAt pieces colors) color) ⌝ }
 {
     let q = king_square(pieces, colors, geometry::other(color));
-    attacks::inner::is_attacked(t, pieces, colors, q, color)
+    attacks::inner::is_attacked(pieces, colors, q, color)
 }

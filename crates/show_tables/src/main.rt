@@ -1,14 +1,17 @@
-// Prints the tables and the sets of each square, one a line, in the form of the oracle's `ported tables`.
+// Prints the tables and the sets of each square, one a line, in the form of the oracle's `ported tables`, and then what is asked of the sliders.
 use geometry::Color;
 use libc::STDOUT_FILENO;
 ghost use Prim.Native.Nat.{_<_};
 ghost use Rattle.geometry.specs.Lines.{IsBetween};
 
+mod sliders; // sliders.rt: occupied sets read, and what each slider reaches past them
+
 fn main() {
     let t = tables::between_table();
     show_between(&t);
     show_lines();
-    show_squares(&t);
+    show_squares();
+    sliders::show_all();
 }
 
 fn show_between(t: &[u64; 4096])
@@ -46,24 +49,22 @@ fn line_row(a: u8) {
 }
 
 fn line_pair(a: u8, b: u8) {
-    show_pair(b"line ", a, b, tables::inner::line(a, b));
+    show_pair(b"line ", a, b, sliding::inner::lines::line(a, b));
 }
 
-fn show_squares(t: &[u64; 4096])
-    requires { ⌜ IsBetween (now t) ⌝ }
-{
+fn show_squares() {
     for a in 0u8..64 {
-        show_square(t, a);
+        show_square(a);
     }
 }
 
-fn show_square(t: &[u64; 4096], a: u8)
-    requires { ⌜ IsBetween (now t) × (a < 64) ⌝ }
+fn show_square(a: u8)
+    requires { ⌜ a < 64 ⌝ }
 {
     show(b"knight ", a, tables::inner::get_knight_moves(a));
     show(b"king ", a, tables::inner::get_king_moves(a));
-    show(b"rookrays ", a, tables::inner::get_rook_moves(t, a, 0));
-    show(b"bishoprays ", a, tables::inner::get_bishop_moves(t, a, 0));
+    show(b"rookrays ", a, sliding::inner::get_rook_moves(a, 0));
+    show(b"bishoprays ", a, sliding::inner::get_bishop_moves(a, 0));
     show(
         b"pawnw ",
         a,
@@ -87,33 +88,11 @@ fn show(name: &[u8], a: u8, set: u64) {
     io::write_all(STDOUT_FILENO, name);
     io::print_decimal(STDOUT_FILENO, a as u64);
     io::write_all(STDOUT_FILENO, b" ");
-    io::write_all(STDOUT_FILENO, &digits(set));
+    end_with(set);
 }
 
-// The sixteen hexadecimal digits of a set, and the end of the line.
-fn digits(s: u64) -> [u8; 17] {
-    [
-        digit(s >> 60),
-        digit(s >> 56),
-        digit(s >> 52),
-        digit(s >> 48),
-        digit(s >> 44),
-        digit(s >> 40),
-        digit(s >> 36),
-        digit(s >> 32),
-        digit(s >> 28),
-        digit(s >> 24),
-        digit(s >> 20),
-        digit(s >> 16),
-        digit(s >> 12),
-        digit(s >> 8),
-        digit(s >> 4),
-        digit(s),
-        b'\n',
-    ]
-}
-
-fn digit(x: u64) -> u8 {
-    let d = (x % 16) as u8;
-    if d < 10 { 48 + d } else { 87 + d }
+// A set, in sixteen digits, ends a line.
+fn end_with(set: u64) {
+    io::print_hex(STDOUT_FILENO, set, 16);
+    io::write_all(STDOUT_FILENO, b"\n");
 }

@@ -88,6 +88,10 @@ not-all (suc n) p = go (p n) (not-all n p)
 pub some-test : (p : ℕ → Bool) → not (eqb (setOf p) 0) ≡ someSquare p
 some-test p = ap not (none-test p) ∙ not-all 64 p
 
+-- two numbers of a number, computed at all numbers below n
+pub number-law : (n : ℕ) (f g : ℕ → ℕ) → allTo n (λ k. eqb (f k) (g k)) ≡ true → (k : ℕ) → k < n → f k ≡ g k
+number-law n f g e k h = eqb-true (f k) (g k) (all-at n (λ j. eqb (f j) (g j)) e k h)
+
 -- a test computed at all squares, at all pairs and at all triples
 pub square-law : (p : ℕ → Bool) → allTo 64 p ≡ true → (k : ℕ) → k < 64 → p k ≡ true
 square-law p = all-at 64 p

@@ -1,44 +1,27 @@
 -- The masks of files and ranks, and the shifts of a whole set by one step.
-use mathlib.Core.Path.{_≡_, refl, ap, ap₂, _∙_}
-use mathlib.Core.Bool.{Bool, true, false}
+use mathlib.Core.Path.{_≡_, refl, sym, ap, ap₂, _∙_}
+use mathlib.Core.Bool.{Bool, true}
 use Prim.Native.Nat.{ℕ, _+_, _-_, _*_, _/_, _%_, _^_, _<_}
 use native.Mathlib.Nat.{add-comm, mod-lt}
 use native.Mathlib.Omega.{arith}
 use lib.Dec.{eqb, ltb, leb}
 use lib.Pow.{pow-pos}
 use lib.Bits.{bitAnd, and-le-l}
-use borrow.Author.Tests.{lt-ltb, eqb-true}
+use borrow.Author.Tests.{lt-ltb}
 use Rattle.squares.specs.Tests.{_and_}
 use Rattle.squares.specs.Squares.{everySquare, file, rank, has, upTo, setOf, allTo, overOne, underOne, leftOfOne, rightOfOne}
-use Rattle.squares.proofs.Testing.{agree}
+use Rattle.squares.proofs.Testing.{and-swap, and-group, known, agree}
 use Rattle.squares.proofs.Digits.{has-and, has-shr, has-shl-mod}
 use Rattle.squares.proofs.Comprehension.{is-upTo}
-use Rattle.squares.proofs.Every.{all-at, square-eq}
+use Rattle.squares.proofs.Every.{number-law, square-eq}
 
 pub file-mask : (f : ℕ) → f < 8 → 0x0101_0101_0101_0101 * 2 ^ f % 2 ^ 64 ≡ setOf (λ k. eqb (file k) f)
 unfolding upTo allTo _and_
-file-mask f h = eqb-true _ _ (all-at 8 (λ i. eqb (0x0101_0101_0101_0101 * 2 ^ i % 2 ^ 64) (setOf (λ k. eqb (file k) i))) refl f h)
+file-mask = number-law 8 (λ f. 0x0101_0101_0101_0101 * 2 ^ f % 2 ^ 64) (λ f. setOf (λ k. eqb (file k) f)) refl
 
 pub rank-mask : (r : ℕ) → r < 8 → 0xff * 2 ^ (r * 8) % 2 ^ 64 ≡ setOf (λ k. eqb (rank k) r)
 unfolding upTo allTo _and_
-rank-mask r h = eqb-true _ _ (all-at 8 (λ i. eqb (0xff * 2 ^ (i * 8) % 2 ^ 64) (setOf (λ k. eqb (rank k) i))) refl r h)
-
-and-swap : (a b : Bool) → (a and b) ≡ (b and a)
-unfolding _and_
-and-swap true true = refl
-and-swap true false = refl
-and-swap false true = refl
-and-swap false false = refl
-
-and-turn : (a b c : Bool) → (a and (b and c)) ≡ ((a and c) and b)
-unfolding _and_
-and-turn true b c = and-swap b c
-and-turn false b c = refl
-
--- a guard that is already known
-known : {a : Bool} (b : Bool) → a ≡ true → (a and b) ≡ b
-unfolding _and_
-known b e = ap (λ (t : Bool). t and b) e
+rank-mask = number-law 8 (λ r. 0xff * 2 ^ (r * 8) % 2 ^ 64) (λ r. setOf (λ k. eqb (rank k) r)) refl
 
 module _ (s : ℕ) (fits : s < 2 ^ 64) where
   pub up-is : s * 2 ^ 8 % 2 ^ 64 ≡ setOf (overOne s)
@@ -58,5 +41,5 @@ module _ (s : ℕ) (fits : s < 2 ^ 64) where
   right-is mask e =
       is-upTo 64 (bitAnd s mask * 2 ^ 1 % 2 ^ 64) (rightOfOne s) (mod-lt (bitAnd s mask * 2 ^ 1) (pow-pos 64))
       (λ k l. has-shl-mod (bitAnd s mask) 1 64 k ∙ known (leb 1 k and has (bitAnd s mask) (k - 1)) (lt-ltb k 64 l)
-      ∙ ap (λ (t : Bool). leb 1 k and t) (has-and s mask (k - 1)) ∙ and-turn (leb 1 k) (has s (k - 1)) (has mask (k - 1))
+      ∙ ap (λ (t : Bool). leb 1 k and t) (has-and s mask (k - 1)) ∙ ap (λ (t : Bool). leb 1 k and t) (and-swap (has s (k - 1)) (has mask (k - 1))) ∙ sym (and-group (leb 1 k) (has mask (k - 1)) (has s (k - 1)))
       ∙ ap (λ (t : Bool). t and has s (k - 1)) (square-eq (λ j. leb 1 j and has mask (j - 1)) (λ j. leb 1 (file j)) e k l))

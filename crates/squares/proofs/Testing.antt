@@ -1,5 +1,5 @@
 -- Laws of tests.
-use mathlib.Core.Path.{_≡_, refl, sym}
+use mathlib.Core.Path.{_≡_, refl, sym, ap, _∙_}
 use mathlib.Core.Logic.{_⊎_, inl, inr}
 use mathlib.Core.Bool.{Bool, true, false, not, false≢true}
 use Prim.Native.Nat.{ℕ, _≤_, _<_}
@@ -47,6 +47,43 @@ pub and-false : (a : Bool) → (a and false) ≡ false
 unfolding _and_
 and-false true = refl
 and-false false = refl
+
+pub and-swap : (a b : Bool) → (a and b) ≡ (b and a)
+unfolding _and_
+and-swap true true = refl
+and-swap true false = refl
+and-swap false true = refl
+and-swap false false = refl
+
+pub and-group : (a b c : Bool) → ((a and b) and c) ≡ (a and (b and c))
+unfolding _and_
+and-group true b c = refl
+and-group false b c = refl
+
+pub or-and : (a b c : Bool) → ((a and c) or (b and c)) ≡ ((a or b) and c)
+unfolding _and_ _or_
+or-and true b true = refl
+or-and true true false = refl
+or-and true false false = refl
+or-and false b c = refl
+
+pub or-false : (a : Bool) → (a or false) ≡ a
+unfolding _or_
+or-false true = refl
+or-false false = refl
+
+-- a test that is known to pass, before another and behind it
+pub known : {a : Bool} (b : Bool) → a ≡ true → (a and b) ≡ b
+unfolding _and_
+known b e = ap (λ (t : Bool). t and b) e
+
+pub and-yes : (a : Bool) {b : Bool} → b ≡ true → (a and b) ≡ a
+and-yes a e = ap (λ (t : Bool). a and t) e ∙ and-true a
+
+-- what is tested where another test passes
+pub implied : (p : Bool) {q : Bool} → (not p or q) ≡ true → p ≡ true → q ≡ true
+unfolding _or_
+implied p {q} e h = ap (λ (t : Bool). not t or q) (sym h) ∙ e
 
 -- a test that fails
 pub fails : (b : Bool) → (b ≡ true → ⊥) → not b ≡ true

@@ -9,7 +9,7 @@ use lib.Pow.{pow-pos}
 use borrow.Author.Tests.{eqb-true}
 use Rattle.squares.specs.Tests.{_and_, _or_}
 use Rattle.squares.specs.Squares.{united, has, setOf, someSquare, besides, LeastOr64}
-use Rattle.squares.proofs.Testing.{both, left, right, either, or-left, or-right, bool-ext}
+use Rattle.squares.proofs.Testing.{both, left, right, either, or-left, or-right, or-false, bool-ext}
 use Rattle.squares.proofs.Digits.{has-or, has-zero}
 use Rattle.squares.proofs.Comprehension.{is-upTo, upTo-lt, has-setOf}
 use Rattle.squares.proofs.Every.{any-of, any-at, any-cong, any-none}
@@ -85,7 +85,3 @@ unfolding _or_
 unite-end f s left r z u =
     is-upTo 64 r (united f s) (u .r-fits)
     (λ k l. sym (or-false (has r k)) ∙ ap (λ (t : Bool). has r k or t) (sym (none-left f k) ∙ ap (λ (x : ℕ). united f x k) (sym z)) ∙ u .whole k l)
-  where
-    or-false : (a : Bool) → (a or false) ≡ a
-    or-false true = refl
-    or-false false = refl

@@ -34,8 +34,8 @@ fn few_souls(e: Position) -> bool
 }
 
 // Neither the king's home nor the square on the rook's new file is attacked.
-fn unattacked(t: &[u64; 4096], e: Position, c: Color, file: u8) -> bool
-    requires { ⌜ (IsBetween (now t) × Clean (e .pieces) (e .colors)) × (file < 8) ⌝ }
+fn unattacked(e: Position, c: Color, file: u8) -> bool
+    requires { ⌜ Clean (e .pieces) (e .colors) × (file < 8) ⌝ }
     ensures { λ z. ⌜ z ≡ (not (attacked (menIn e) (opp c) (homeSquare c 4)) and not (attacked (menIn e) (opp c) (homeSquare c file))) ⌝ }
 {
     let pieces = e.pieces;
@@ -43,21 +43,21 @@ fn unattacked(t: &[u64; 4096], e: Position, c: Color, file: u8) -> bool
     let d = geometry::other(c);
     let king = accept::inner::tests::home(c, 4);
     let rook = accept::inner::tests::home(c, file);
-    let out = attacks::inner::is_attacked(t, pieces, colors, king, d);
-    let through = attacks::inner::is_attacked(t, pieces, colors, rook, d);
+    let out = attacks::inner::is_attacked(pieces, colors, king, d);
+    let through = attacks::inner::is_attacked(pieces, colors, rook, d);
     !out & !through
 }
 
 // No castling out of or through attack.
-fn is_safe(t: &[u64; 4096], e: Position, w: Way, c: Color) -> bool
-    requires { ⌜ IsBetween (now t) × Clean (e .pieces) (e .colors) ⌝ }
+fn is_safe(e: Position, w: Way, c: Color) -> bool
+    requires { ⌜ Clean (e .pieces) (e .colors) ⌝ }
     ensures { λ z. ⌜ z ≡ safeFor (menIn e) (wayOf w) c ⌝ }
 {
     match w {
         Way::Plain => true,
         Way::Passant => true,
-        Way::Short => unattacked(t, e, c, 5),
-        Way::Long => unattacked(t, e, c, 3),
+        Way::Short => unattacked(e, c, 5),
+        Way::Long => unattacked(e, c, 3),
     }
 }
 
@@ -83,8 +83,8 @@ fn agrees(today: EnPassantFlag, after: EnPassantFlag) -> bool
 }
 
 // What the earlier position is asked beside un-make's own tests; refusals 2 to 5 never fail on it. The dear tests come last.
-fn earlier_ok(t: &[u64; 4096], e: Position, r: ChessRetraction, today: EnPassantFlag) -> bool
-    requires { ⌜ IsBetween (now t) × Earlier e r ⌝ }
+fn earlier_ok(e: Position, r: ChessRetraction, today: EnPassantFlag) -> bool
+    requires { ⌜ Earlier e r ⌝ }
     ensures { λ z. ⌜ z ≡ earlierFor (posAt e) r today ⌝ }
 {
     if !few_souls(e) {
@@ -97,12 +97,12 @@ fn earlier_ok(t: &[u64; 4096], e: Position, r: ChessRetraction, today: EnPassant
     }
     let c = e.turn;
     let w = moves::inner::way_of(x, r.target, r.source, r.uncaptured);
-    if !is_safe(t, e, w, c) {
+    if !is_safe(e, w, c) {
         return false;
     }
     let pieces = e.pieces;
     let colors = e.colors;
-    !pins::inner::bad_check(t, pieces, colors, c)
+    !pins::inner::bad_check(pieces, colors, c)
 }
 
 // The strict test.
@@ -117,7 +117,7 @@ pub fn is_strict(t: &[u64; 4096], p: Position, r: ChessRetraction) -> bool
         Verdict::Accepted => {
             let e = u.position;
             let today = p.passant;
-            earlier_ok(t, e, r, today)
+            earlier_ok(e, r, today)
         }
     }
 }

@@ -1,5 +1,5 @@
 pub mod Entries
 pub mod BetweenRule
 pub mod Paths
-pub mod Pawns
+pub mod Steps
 pub mod OneTable

@@ -1,7 +1,7 @@
-// The tables that the Rust takes from the crate `chess`, and what it reads from them.
+// The table of squares between, and the steps of men that do not slide, which the Rust takes from the crate `chess`.
 ghost use Rattle.geometry.specs.Lines.{IsBetween};
 
-pub mod inner; // inner.rt: the sets of squares that are read from a lent table, or made by masks and shifts
+pub mod inner; // inner.rt: squares between, read from the lent table, and steps by masks and shifts
 
 // The squares strictly between each two squares: those between a and b at 64 a + b. The built code makes the table anew at each call, so
 // an entry calls this once and lends the table down.

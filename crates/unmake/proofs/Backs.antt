@@ -1,9 +1,10 @@
 -- Un-make on arrays is un-make of the Laws on their men.
 use mathlib.Core.Path.{_≡_, refl, ap, ap₂, _∙_}
-use mathlib.Core.Bool.{Bool, true, false, not, _&&_}
+use mathlib.Core.Bool.{Bool, not, _&&_}
 use Prim.Native.Nat.{ℕ, _<_}
 use native.Mathlib.Omega.{arith}
 use Rattle.squares.specs.Tests.{_and_, _or_}
+use Rattle.squares.proofs.Testing.{or-false}
 use Rattle.geometry.specs.declared.Color.{Color}
 use Rattle.geometry.specs.declared.Color.the-variants.{White, Black}
 use Rattle.geometry.specs.Colors.{opp, isWhite, behind}
@@ -82,11 +83,6 @@ module _ (p : Position) (w : laws.Way) (c : Color) (t s x y : ℕ) (ht : t < 64)
         before-is e₄ = then-do p full (unfilled w c s m₂) full-is on₃ (put t (manOf x)) e₄
 
 -- the rights: each colour's two, by what the way gives back
-or-none : (a : Bool) → (a or false) ≡ a
-unfolding _or_
-or-none true = refl
-or-none false = refl
-
 abbrev isOn : Side → laws.Way → Bool
 isOn short w = isShort w
 isOn long w = isLong w
@@ -97,10 +93,10 @@ isFor Black c = not (isWhite c)
 
 right-back : (w : laws.Way) (c e : Color) (d : Side) (ρ : Rights) → (ρ e d or (isOn d w && isFor e c)) ≡ regained w c ρ e d
 unfolding _and_
-right-back plain c e short ρ = or-none (ρ e short)
-right-back plain c e long ρ = or-none (ρ e long)
-right-back passant c e short ρ = or-none (ρ e short)
-right-back passant c e long ρ = or-none (ρ e long)
+right-back plain c e short ρ = or-false (ρ e short)
+right-back plain c e long ρ = or-false (ρ e long)
+right-back passant c e short ρ = or-false (ρ e short)
+right-back passant c e long ρ = or-false (ρ e long)
 right-back (castling short) White White short ρ = refl
 right-back (castling short) White White long ρ = refl
 right-back (castling short) White Black short ρ = refl

@@ -6,16 +6,16 @@ use Rattle.show_tables.proofs.show_squares.Statement.{statement}
 use Rattle.show_tables.proofs.show_squares.Tie as tie
 
 abbrev Inv-loop : tie.InvT-loop
-Inv-loop t a₀ a = a ≤ 64
+Inv-loop a₀ a = a ≤ 64
 
 abbrev μ-loop : tie.MeasureT-loop
-μ-loop t a₀ a = 64 - a
+μ-loop a₀ a = 64 - a
 
 loop-holds : tie.Need-loop-holds Inv-loop μ-loop
 loop-holds c = omega arith
 
 show-square-requires : tie.Need-show-square-requires Inv-loop μ-loop
-show-square-requires c κs = (c .before .before .pre, omega arith)
+show-square-requires c κs = omega arith
 
 add-a : tie.Need-add-a Inv-loop μ-loop
 add-a c = omega arith

@@ -21,7 +21,7 @@ enum-told : tie.Need-enum-told
 enum-told c = search needs
 
 bad-check-requires : tie.Need-bad-check-requires
-bad-check-requires c κs = let p = five-passes (c .before .before .before .args .pieces) (c .before .before .before .args .colors) (c .before .before .before .args .turn) (rightsOf (c .before .before .before .args .white) (c .before .before .before .args .black)) (c .before .before .before .args .passant) (sym (c .before .before .five .ensures) ∙ c .enum-told .given .1) in (c .before .before .before .pre, clean (c .before .before .before .args .pieces) (c .before .before .before .args .colors) (let e : length (c .before .before .before .args .pieces) ≡ 6 = search needs in e) (let e : length (c .before .before .before .args .colors) ≡ 2 = search needs in e) (λ i. let f : Fits w64 (getD (c .before .before .before .args .pieces) i 0) = search needs in f .fits) (λ i. let f : Fits w64 (getD (c .before .before .before .args .colors) i 0) = search needs in f .fits) (p .men-pass), p .kings-pass)
+bad-check-requires c κs = let p = five-passes (c .before .before .before .args .pieces) (c .before .before .before .args .colors) (c .before .before .before .args .turn) (rightsOf (c .before .before .before .args .white) (c .before .before .before .args .black)) (c .before .before .before .args .passant) (sym (c .before .before .five .ensures) ∙ c .enum-told .given .1) in (clean (c .before .before .before .args .pieces) (c .before .before .before .args .colors) (let e : length (c .before .before .before .args .pieces) ≡ 6 = search needs in e) (let e : length (c .before .before .before .args .colors) ≡ 2 = search needs in e) (λ i. let f : Fits w64 (getD (c .before .before .before .args .pieces) i 0) = search needs in f .fits) (λ i. let f : Fits w64 (getD (c .before .before .before .args .colors) i 0) = search needs in f .fits) (p .men-pass), p .kings-pass)
 
 returns : tie.Need-returns
 unfolding judgedOf

@@ -39,7 +39,7 @@ met-requires : tie.Need-met-requires
 met-requires c κs = search needs
 
 returns : tie.Need-returns
-returns c = c .met .ensures ∙ rw (c .before .get-king-moves .ensures, c .before .before .get-knight-moves .ensures, c .before .before .before .get-pawn-attacks .ensures, c .before .before .before .before .other .ensures, c .before .before .before .before .before .get-rook-moves .ensures, c .before .before .before .before .before .before .get-bishop-moves .ensures, c .before .before .before .before .before .before .before .occupied .ensures, c .before .before .before .before .before .before .before .before .color-place .ensures .0) (met-is (c .before .before .before .before .before .before .before .before .before .args .pieces) (c .before .before .before .before .before .before .before .before .before .args .t3) (c .before .before .before .before .before .before .before .before .before .pre .1) (c .before .before .before .before .before .before .before .before .before .args .color) (c .before .before .before .before .before .before .before .before .before .args .sq) (c .before .before .before .before .before .before .before .before .before .pre .2))
+returns c = c .met .ensures ∙ rw (c .before .get-king-moves .ensures, c .before .before .get-knight-moves .ensures, c .before .before .before .get-pawn-attacks .ensures, c .before .before .before .before .other .ensures, c .before .before .before .before .before .get-rook-moves .ensures, c .before .before .before .before .before .before .get-bishop-moves .ensures, c .before .before .before .before .before .before .before .occupied .ensures, c .before .before .before .before .before .before .before .before .color-place .ensures .0) (met-is (c .before .before .before .before .before .before .before .before .before .args .pieces) (c .before .before .before .before .before .before .before .before .before .args .t2) (c .before .before .before .before .before .before .before .before .before .pre .0) (c .before .before .before .before .before .before .before .before .before .args .color) (c .before .before .before .before .before .before .before .before .before .args .sq) (c .before .before .before .before .before .before .before .before .before .pre .1))
 
 pub attackers-spec : {M : Type 1} → statement M
 attackers-spec =

@@ -35,7 +35,7 @@ enum-told : tie.Need-enum-told
 enum-told c = search needs
 
 is-attacked-requires : tie.Need-is-attacked-requires
-is-attacked-requires c κs = let b = c .before .before .before .before .before .before .before .before .before .args .self in let sq = c .before .before .before .before .before .before .before .before .before .args .sq in let e : c .before .before .before .before .before .kept .result ≡ b = c .before .before .before .before .before .kept .ensures ∙ rw (c .before .before .before .enum-told .given .1) in let k = ask-accepted b sq (sym (c .before .before .before .before .before .before .ask-gate .ensures) ∙ c .before .before .before .enum-told .given .1) in (c .before .before .before .before .before .before .before .before .between-table .ensures, subst (λ (x : RetractableBoard). Clean (x .pieces) (x .colors)) (sym e) (gate-clean b (let e : length (b .pieces) ≡ 6 = search needs in e) (let e : length (b .colors) ≡ 2 = search needs in e) (λ i. let f : Fits w64 (getD (b .pieces) i 0) = search needs in f .fits) (λ i. let f : Fits w64 (getD (b .colors) i 0) = search needs in f .fits) (k .0) .0), omega (arith, ltb-true sq 64 (k .1)))
+is-attacked-requires c κs = let b = c .before .before .before .before .before .before .before .before .args .self in let sq = c .before .before .before .before .before .before .before .before .args .sq in let e : c .before .before .before .before .kept .result ≡ b = c .before .before .before .before .kept .ensures ∙ rw (c .before .before .enum-told .given .1) in let k = ask-accepted b sq (sym (c .before .before .before .before .before .ask-gate .ensures) ∙ c .before .before .enum-told .given .1) in (subst (λ (x : RetractableBoard). Clean (x .pieces) (x .colors)) (sym e) (gate-clean b (let e : length (b .pieces) ≡ 6 = search needs in e) (let e : length (b .colors) ≡ 2 = search needs in e) (λ i. let f : Fits w64 (getD (b .pieces) i 0) = search needs in f .fits) (λ i. let f : Fits w64 (getD (b .colors) i 0) = search needs in f .fits) (k .0) .0), omega (arith, ltb-true sq 64 (k .1)))
 
 told-requires : tie.Need-told-requires
 told-requires c κs = search needs
@@ -44,7 +44,7 @@ returns : tie.Need-returns
 returns c = let a = c .before .before .before .before .before .before .before .args in let b = a .self in tells-by (c .before .before .before .before .ask-gate .result) (askTests b (a .sq)) b (ap (λ (v : Verdict). verdictNumber v) (c .before .before .before .before .ask-gate .ensures) ∙ ask-number b (a .sq)) (attackedSays (toldBy (attacked (menOn b) (a .color) (a .sq)))) (rw (c .before .v .given .1)) (c .before .before .before .kept .ensures)
 
 returns-2 : tie.Need-returns-2
-returns-2 c = let a = c .before .before .before .before .before .before .before .before .before .before .before .args in let b = a .self in let e : c .before .before .before .before .before .before .before .kept .result ≡ b = c .before .before .before .before .before .before .before .kept .ensures ∙ rw (c .before .before .before .before .before .enum-told .given .1) in tells-by (c .before .before .before .before .before .before .before .before .ask-gate .result) (askTests b (a .sq)) b (ap (λ (v : Verdict). verdictNumber v) (c .before .before .before .before .before .before .before .before .ask-gate .ensures) ∙ ask-number b (a .sq)) (attackedSays (toldBy (attacked (menOn b) (a .color) (a .sq)))) (rw (c .before .before .before .before .before .enum-told .given .1, c .told .ensures, c .before .is-attacked .ensures) (ap (λ (x : RetractableBoard). attackedSays (toldBy (attacked (menOn x) (a .color) (a .sq)))) e)) (c .before .before .before .before .before .before .before .kept .ensures)
+returns-2 c = let a = c .before .before .before .before .before .before .before .before .before .before .args in let b = a .self in let e : c .before .before .before .before .before .before .kept .result ≡ b = c .before .before .before .before .before .before .kept .ensures ∙ rw (c .before .before .before .before .enum-told .given .1) in tells-by (c .before .before .before .before .before .before .before .ask-gate .result) (askTests b (a .sq)) b (ap (λ (v : Verdict). verdictNumber v) (c .before .before .before .before .before .before .before .ask-gate .ensures) ∙ ask-number b (a .sq)) (attackedSays (toldBy (attacked (menOn b) (a .color) (a .sq)))) (rw (c .before .before .before .before .enum-told .given .1, c .told .ensures, c .before .is-attacked .ensures) (ap (λ (x : RetractableBoard). attackedSays (toldBy (attacked (menOn x) (a .color) (a .sq)))) e)) (c .before .before .before .before .before .before .kept .ensures)
 
 pub is-attacked-spec : {M : Type 1} → statement M
 is-attacked-spec =

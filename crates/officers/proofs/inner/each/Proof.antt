@@ -11,10 +11,10 @@ use Rattle.officers.proofs.inner.each.Statement.{statement}
 use Rattle.officers.proofs.inner.each.Tie as tie
 
 abbrev Inv-loop : tie.InvT-loop
-Inv-loop t s kind allowed set out₀ left₀ out left = Pushing (fromOf s kind allowed) out₀ set out left
+Inv-loop s kind allowed set out₀ left₀ out left = Pushing (fromOf s kind allowed) out₀ set out left
 
 abbrev μ-loop : tie.MeasureT-loop
-μ-loop t s kind allowed set out₀ left₀ out left = left
+μ-loop s kind allowed set out₀ left₀ out left = left
 
 loop-holds : tie.Need-loop-holds Inv-loop μ-loop
 loop-holds c = going-starts (λ (l : RetractionList) (k : ℕ). pushedAll l (fromOf (c .args .s) (c .args .kind) (c .args .allowed) k)) (c .args .list) (c .fits .set .fits)
@@ -23,7 +23,7 @@ lowest-requires : tie.Need-lowest-requires Inv-loop μ-loop
 lowest-requires c κs = search needs
 
 from-requires : tie.Need-from-requires Inv-loop μ-loop
-from-requires c κs = (c .before .before .before .pre, c .lowest .ensures .some (omega arith) .0)
+from-requires c κs = c .lowest .ensures .some (omega arith) .0
 
 without-requires : tie.Need-without-requires Inv-loop μ-loop
 without-requires c κs = search needs

@@ -32,7 +32,7 @@ get-queen-moves-requires c κs = search needs
 
 returns-4 : tie.Need-returns-4
 unfolding movesOf
-returns-4 c = rw (ne-eqb _ _ (c .before .before .before .if1 .left), ne-eqb _ _ (c .before .before .if2 .left), ne-eqb _ _ (c .before .if3 .left), c .get-queen-moves .ensures) (queen-is (c .before .before .before .before .args .sq) (c .before .before .before .before .args .occ) (c .before .before .before .before .pre .1))
+returns-4 c = rw (ne-eqb _ _ (c .before .before .before .if1 .left), ne-eqb _ _ (c .before .before .if2 .left), ne-eqb _ _ (c .before .if3 .left), c .get-queen-moves .ensures) (queen-is (c .before .before .before .before .args .sq) (c .before .before .before .before .args .occ) (c .before .before .before .before .pre))
 
 pub moves-spec : {M : Type 1} → statement M
 moves-spec =

@@ -13,7 +13,7 @@ king-square-requires : tie.Need-king-square-requires
 king-square-requires c κs = search needs
 
 is-attacked-requires : tie.Need-is-attacked-requires
-is-attacked-requires c κs = (c .before .before .pre .0, c .before .before .pre .1, c .king-square .ensures .here)
+is-attacked-requires c κs = (c .before .before .pre .0, c .king-square .ensures .here)
 
 returns : tie.Need-returns
 returns c = c .is-attacked .ensures ∙ quiet-is (menAt (c .before .before .before .args .pieces) (c .before .before .before .args .colors)) (c .before .before .before .args .color) (c .before .king-square .result) (rw (c .before .before .other .ensures) at (c .before .king-square .ensures))

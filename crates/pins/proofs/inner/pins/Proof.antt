@@ -13,7 +13,7 @@ other-requires : tie.Need-other-requires
 other-requires c κs = search needs
 
 snipers-requires : tie.Need-snipers-requires
-snipers-requires c κs = (c .before .before .pre .0, c .before .before .pre .1, c .before .king-square .ensures .here)
+snipers-requires c κs = (c .before .before .pre .1, c .before .king-square .ensures .here)
 
 shields-requires : tie.Need-shields-requires
 shields-requires c κs = (c .before .before .before .pre .0, c .before .before .before .pre .1, c .before .before .king-square .ensures .here)

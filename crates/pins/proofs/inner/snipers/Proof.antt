@@ -24,7 +24,7 @@ met-requires : tie.Need-met-requires
 met-requires c κs = search needs
 
 returns : tie.Need-returns
-returns c = c .met .ensures ∙ rw (c .before .get-rook-moves .ensures, c .before .before .get-bishop-moves .ensures, c .before .before .before .color-place .ensures .0) (snipers-is (c .before .before .before .before .args .pieces) (c .before .before .before .before .args .t3) (c .before .before .before .before .args .color) (c .before .before .before .before .args .q) (c .before .before .before .before .pre .1) (c .before .before .before .before .pre .2))
+returns c = c .met .ensures ∙ rw (c .before .get-rook-moves .ensures, c .before .before .get-bishop-moves .ensures, c .before .before .before .color-place .ensures .0) (snipers-is (c .before .before .before .before .args .pieces) (c .before .before .before .before .args .t2) (c .before .before .before .before .args .color) (c .before .before .before .before .args .q) (c .before .before .before .before .pre .0) (c .before .before .before .before .pre .1))
 
 pub snipers-spec : {M : Type 1} → statement M
 snipers-spec =

@@ -15,7 +15,7 @@ enum-told-2 : tie.Need-enum-told-2
 enum-told-2 c = search needs
 
 earlier-ok-requires : tie.Need-earlier-ok-requires
-earlier-ok-requires c κs = (c .before .before .before .before .pre .0, earlier-ready _ _ (c .before .before .before .before .pre .1) _ (c .before .before .before .unmake .ensures) (c .before .enum-told2 .given .1))
+earlier-ok-requires c κs = earlier-ready _ _ (c .before .before .before .before .pre .1) _ (c .before .before .before .unmake .ensures) (c .before .enum-told2 .given .1)
 
 returns : tie.Need-returns
 returns c = strict-refused _ _ (c .before .before .before .pre .1) _ (c .before .before .unmake .ensures) _ (c .enum-told .given .1)

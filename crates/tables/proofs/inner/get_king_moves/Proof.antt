@@ -1,22 +1,30 @@
 -- `tables::inner::get_king_moves` meets its contract.
-use Prim.Native.Nat.{ℕ}
 use borrow.Author.Needs.{needs}
-use Rattle.squares.specs.Tests.{_and_, _or_}
-use Rattle.squares.specs.Squares.{setOf, upTo}
-use Rattle.geometry.specs.Steps.{kingStep}
-use Rattle.tables.proofs.Entries.{entry}
+use Rattle.tables.proofs.Steps.{ring-is}
 use Rattle.tables.proofs.inner.get_king_moves.Statement.{statement}
 use Rattle.tables.proofs.inner.get_king_moves.Tie as tie
 
-mul-result : tie.Need-mul-result
-mul-result c = search needs
+bit-requires : tie.Need-bit-requires
+bit-requires c κs = search needs
 
-array-read-result : tie.Need-array-read-result
-array-read-result c = search needs
+left-requires : tie.Need-left-requires
+left-requires c κs = search needs
+
+right-requires : tie.Need-right-requires
+right-requires c κs = search needs
+
+up-requires : tie.Need-up-requires
+up-requires c κs = search needs
+
+down-requires : tie.Need-down-requires
+down-requires c κs = search needs
 
 returns : tie.Need-returns
-unfolding kingStep upTo _and_ _or_
-returns c = search (entry (λ (k : ℕ). setOf (kingStep k)))
+returns c =
+    rw (c .down .ensures, c .before .up .ensures, c .before .before .right .ensures, c .before .before .before .left .ensures, c .before .before .before .before .bit .ensures)
+    (ring-is (c .before .before .before .before .before .args .sq) (c .before .before .before .before .before .pre))
 
 pub get-king-moves-spec : {M : Type 1} → statement M
-get-king-moves-spec = tie.close (tie.spec mul-result array-read-result returns)
+get-king-moves-spec =
+    tie.close
+    (tie.spec bit-requires left-requires right-requires up-requires down-requires returns)

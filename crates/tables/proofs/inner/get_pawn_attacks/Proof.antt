@@ -1,6 +1,6 @@
 -- `tables::inner::get_pawn_attacks` meets its contract.
 use borrow.Author.Needs.{needs}
-use Rattle.tables.proofs.Pawns.{attacks-are}
+use Rattle.tables.proofs.Steps.{attacks-are}
 use Rattle.tables.proofs.inner.get_pawn_attacks.Statement.{statement}
 use Rattle.tables.proofs.inner.get_pawn_attacks.Tie as tie
 

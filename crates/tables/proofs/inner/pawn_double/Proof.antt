@@ -1,6 +1,6 @@
 -- `tables::inner::pawn_double` meets its contract.
 use borrow.Author.Needs.{needs}
-use Rattle.tables.proofs.Pawns.{double-is}
+use Rattle.tables.proofs.Steps.{double-is}
 use Rattle.tables.proofs.inner.pawn_double.Statement.{statement}
 use Rattle.tables.proofs.inner.pawn_double.Tie as tie
 

@@ -1,6 +1,6 @@
 -- `tables::inner::pawn_step` meets its contract.
 use borrow.Author.Needs.{needs}
-use Rattle.tables.proofs.Pawns.{step-is}
+use Rattle.tables.proofs.Steps.{step-is}
 use Rattle.tables.proofs.inner.pawn_step.Statement.{statement}
 use Rattle.tables.proofs.inner.pawn_step.Tie as tie
 

@@ -1,0 +1,4 @@
+pub mod Borrowing
+pub mod Diagonals
+pub mod Mirrors
+pub mod Seeing
