@@ -23,16 +23,23 @@ def newest_source():
     return max(map(os.path.getmtime, files + parts))
 
 
-def programs(built):
-    """The paths of `lastmoves` and `ask`: LASTMOVES and ASK of the environment, else those of target/bin, proved first unless `built`."""
-    names = [n for n in ('lastmoves', 'ask') if n.upper() not in os.environ]
-    if names and not built and subprocess.run(['rt', 'check'] + names, cwd=ROOT, stdout=sys.stderr).returncode:
-        sys.exit('rt check %s failed' % ' '.join(names))
-    paths = [os.environ.get(n.upper(), ROOT + '/target/bin/' + n) for n in ('lastmoves', 'ask')]
-    missing = [p for p in paths if not os.path.exists(p)]
-    if missing:
-        sys.exit('no program ' + ' '.join(missing))
-    return paths
+def programs(built, names=('lastmoves', 'ask')):
+    """The commands of these programs: LASTMOVES, ASK, SHOW_TABLES of the environment, else target/bin's, proved first unless `built`."""
+    own = [n for n in names if n.upper() not in os.environ]
+    if own and not built and subprocess.run(['rt', 'check'] + own, cwd=ROOT, stdout=sys.stderr).returncode:
+        sys.exit('rt check %s failed' % ' '.join(own))
+    return [[os.environ[n.upper()]] if n.upper() in os.environ else command(ROOT + '/target/bin/' + n) for n in names]
+
+
+def command(program):
+    """How a built program is started: programs are x86-64, and elsewhere the kit's emulator runs them, as `rt check` itself does."""
+    if not os.path.exists(program):
+        sys.exit('no program ' + program)
+    if os.uname().machine == 'x86_64':
+        return [program]
+    guide = subprocess.run(['rt', 'doc'], stdout=subprocess.PIPE, check=True, text=True).stdout.strip()
+    kit = os.path.dirname(os.path.dirname(guide)) + '/on/%s/toolchain/' % os.uname().machine
+    return [kit + 'bin/qemu-x86_64', kit + 'lib/ld-linux-x86-64.so.2', '--library-path', kit + 'lib', program]
 
 
 def load(name):
