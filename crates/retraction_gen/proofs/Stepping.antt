@@ -20,7 +20,7 @@ flag-one true false e = absurd (omega arith)
 flag-one false true e = absurd (omega arith)
 flag-one false false e = refl
 
-retraction-one : (r q : ChessRetraction) → retractionSaid r ≡ retractionSaid q → r ≡ q
+pub retraction-one : (r q : ChessRetraction) → retractionSaid r ≡ retractionSaid q → r ≡ q
 retraction-one r q e =
     let s : r .source ≡ q .source = cc in
     let t : r .target ≡ q .target = cc in

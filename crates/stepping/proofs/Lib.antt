@@ -1,0 +1,4 @@
+pub mod Valued
+pub mod Resting
+pub mod Ranged
+pub mod Pressing
