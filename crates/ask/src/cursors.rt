@@ -1,4 +1,4 @@
-// The cursor: any value of it pressed once, and a board's whole sequence.
+// The cursor: any value of it pressed once, and a board's whole sequence; by value, or lent.
 use super::fields;
 use super::lists;
 use super::puts;
@@ -7,14 +7,16 @@ use laws::ChessRetraction;
 use retraction_gen::Made;
 use retraction_gen::Next;
 use retraction_gen::RetractionGen;
+use retraction_gen::Stepped;
 use roll::SourceAndTargets;
 use roll::UnCaptureKind;
 
 // `cursor TAB len index uncaptured m0 .. m5 place:source:targets:kind:mark ..`: what one press yields, and the cursor after it.
-pub(super) fn press(line: &[u8], out: &mut [u8; 65536]) -> usize {
+// `press` has the same field and lends the cursor.
+pub(super) fn press(lent: bool, line: &[u8], out: &mut [u8; 65536]) -> usize {
     let at = fields::after(line, 0, b'\t');
     let g = read(line, at);
-    let s = g.next();
+    let s = moved_on(lent, g);
     let answer = s.next;
     let after = s.cursor;
     let n = put_yield(answer, out);
@@ -25,6 +27,13 @@ pub(super) fn press(line: &[u8], out: &mut [u8; 65536]) -> usize {
     let masks = after.masks;
     let e = puts::sets(out, d, masks);
     put_places(after, out, e)
+}
+
+fn moved_on(lent: bool, g: RetractionGen) -> Stepped {
+    if lent {
+        return stepping::pressed(g);
+    }
+    g.next()
 }
 
 fn read(line: &[u8], at: usize) -> RetractionGen {
@@ -139,24 +148,24 @@ fn put_place(place: usize, e: SourceAndTargets, out: &mut [u8; 65536], len: usiz
 }
 
 // What each press of a board's cursor yields, packed, up to the third end.
-pub(super) fn put_sequence(m: Made, out: &mut [u8; 65536]) -> usize {
+pub(super) fn put_sequence(lent: bool, m: Made, out: &mut [u8; 65536]) -> usize {
     let v = m.verdict;
     match v {
         Verdict::Refused(r) => puts::refused(r, out),
         Verdict::Accepted => {
             let g = m.cursor;
-            put_presses(g, out)
+            put_presses(lent, g, out)
         }
     }
 }
 
 // 47 entries have 64 targets and 6 uncaptures at most each, so the turns suffice.
-fn put_presses(mut g: RetractionGen, out: &mut [u8; 65536]) -> usize {
+fn put_presses(lent: bool, mut g: RetractionGen, out: &mut [u8; 65536]) -> usize {
     let mut n = 0;
     let mut ends = 0;
     let mut turns: u64 = 20000;
     while turns > 0 && ends < 3 {
-        let s = g.next();
+        let s = moved_on(lent, g);
         let answer = s.next;
         g = s.cursor;
         n = put_press(answer, out, n);

@@ -20,6 +20,7 @@ enum Question {
     Masks,
     LastMove,
     Sequence,
+    Presses,
     Piece(u8),
     Attacked(u8, Color),
     Passant(EnPassantFlag),
@@ -52,6 +53,9 @@ fn asked(line: &[u8]) -> Question {
     }
     if fields::starts(line, b"sequence\t") {
         return Question::Sequence;
+    }
+    if fields::starts(line, b"presses\t") {
+        return Question::Presses;
     }
     asked_with(line)
 }
@@ -108,7 +112,8 @@ fn of_board(what: Question, b: RetractableBoard, out: &mut [u8; 65536]) -> usize
         Question::Uncertain => boards::put_boarded(b.set_uncertain_ep(), out),
         Question::Masks => lists::put_masks(retraction_gen::uncaptured_candidates(b), out),
         Question::LastMove => lists::put_last_move(strict::last_move(b), out),
-        Question::Sequence => cursors::put_sequence(RetractionGen::new_legal(b), out),
+        Question::Sequence => cursors::put_sequence(false, RetractionGen::new_legal(b), out),
+        Question::Presses => cursors::put_sequence(true, RetractionGen::new_legal(b), out),
         Question::Piece(sq) => boards::put_piece(b.piece_on(sq), out),
         Question::Attacked(sq, color) => boards::put_attacked(b.is_attacked(sq, color), out),
         Question::Passant(state) => boards::put_boarded(b.set_en_passant(state), out),

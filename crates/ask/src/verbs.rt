@@ -30,7 +30,10 @@ fn by_verb(line: &[u8], out: &mut [u8; 65536]) -> usize {
         return gates::gate(line, out);
     }
     if fields::starts(line, b"cursor\t") {
-        return cursors::press(line, out);
+        return cursors::press(false, line, out);
+    }
+    if fields::starts(line, b"press\t") {
+        return cursors::press(true, line, out);
     }
     if fields::starts(line, b"print\t") {
         return slices::print(line, out);

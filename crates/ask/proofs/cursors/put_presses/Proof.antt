@@ -5,16 +5,16 @@ use Rattle.ask.proofs.cursors.put_presses.Statement.{statement}
 use Rattle.ask.proofs.cursors.put_presses.Tie as tie
 
 abbrev Inv-loop : tie.InvT-loop
-Inv-loop g₀ out₀ n₀ ends₀ turns₀ g out n ends turns = Unit {0}
+Inv-loop lent₀ g₀ out₀ n₀ ends₀ turns₀ g out n ends turns = Unit {0}
 
 abbrev μ-loop : tie.MeasureT-loop
-μ-loop g₀ out₀ n₀ ends₀ turns₀ g out n ends turns = turns
+μ-loop lent₀ g₀ out₀ n₀ ends₀ turns₀ g out n ends turns = turns
 
 loop-holds : tie.Need-loop-holds Inv-loop μ-loop
 loop-holds c = tt
 
-next-requires : tie.Need-next-requires Inv-loop μ-loop
-next-requires c κs = tt
+moved-on-requires : tie.Need-moved-on-requires Inv-loop μ-loop
+moved-on-requires c κs = tt
 
 put-press-requires : tie.Need-put-press-requires Inv-loop μ-loop
 put-press-requires c κs = search needs
@@ -44,7 +44,7 @@ put-presses-spec =
     Inv-loop
     μ-loop
     loop-holds
-    next-requires
+    moved-on-requires
     put-press-requires
     ends-with-requires
     sub-turns
