@@ -33,14 +33,14 @@ front : (o t : List ℕ) → take 0 o ++ take (length t) t ++ drop (0 + length t
 front o t = ap₂ (λ (x : List ℕ) (k : ℕ). x ++ drop k o) (take-length t) (zero-add (length t))
 
 -- all that was added from the front on is shown
-shown : (o out t : List ℕ) (n : ℕ) → Adds o 0 t n out → length t ≤ length o → Shows t n o out
+pub shown : (o out t : List ℕ) (n : ℕ) → Adds o 0 t n out → length t ≤ length o → Shows t n o out
 shown o out t n a h =
     let k : 0 + length t ≤ length o = omega arith in
     let e : n ≡ length t = omega (arith, added-len o t out 0 n a k) in
     let w : n ≤ length out = omega (arith, added-length o t out 0 n a k) in
     record { size = e; holds = added-out o t out 0 n a k ∙ front o t; counts = (w, sym (length-take-le n out w)) }
 
-written-added : {ts : List Test} {t o out : List ℕ} {n : ℕ} → Written ts t o n out → Adds o 0 t n out
+pub written-added : {ts : List Test} {t o out : List ℕ} {n : ℕ} → Written ts t o n out → Adds o 0 t n out
 written-added {t = t} {o = o} {out = out} {n = n} w =
     subst (λ (i : ℕ). Adds o 0 t i out) (zero-add (length t) ∙ sym (w .size))
     (adds o t 0 (omega (arith, w .fits)) out (w .holds ∙ sym (front o t)))

@@ -102,7 +102,7 @@ module _ (t : List ℕ) (b : Boarded) (a : Reads t b) {n : ℕ} {o out p q : Lis
       → Replies t n o out p listed q strict
   reply-accepted e s = record { read = b; reads = a; answers = rw e (s .0); slots = rw e (s .1) }
 
-shows-one : {t u o x y : List ℕ} {n m : ℕ} → t ≡ u → Shows t n o x → Shows u m o y → (n ≡ m) × (x ≡ y)
+pub shows-one : {t u o x y : List ℕ} {n m : ℕ} → t ≡ u → Shows t n o x → Shows u m o y → (n ≡ m) × (x ≡ y)
 shows-one {o = o} e a b = (a .size ∙ ap length e ∙ sym (b .size), a .holds ∙ ap (λ (t : List ℕ). over t o) e ∙ sym (b .holds))
 
 -- there is one answer to a board: its bytes, all of the buffer and of the strict slots

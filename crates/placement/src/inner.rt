@@ -75,7 +75,7 @@ fn kind_letter(pieces: [u64; 6], k: u8) -> u8
 }
 
 // The letter of a square, 0 where no man stands.
-fn letter_at(pieces: [u64; 6], colors: [u64; 2], k: u8) -> u8
+pub fn letter_at(pieces: [u64; 6], colors: [u64; 2], k: u8) -> u8
     requires { ⌜ k < 64 ⌝ }
     ensures { λ r. ⌜ r ≡ byteOf (menAt pieces colors k) ⌝ }
 {

@@ -8,7 +8,7 @@ ghost use Rattle.feed.specs.Appending.{Adds};
 ghost use Rattle.squares.specs.Members.{concat};
 ghost use Rattle.report.specs.Report.{uncapturedLetter, markByte, rowOf, isIn, listedRow, strictRow, headOf};
 
-fn contains(slots: &[u16], slot: u16) -> bool
+pub fn contains(slots: &[u16], slot: u16) -> bool
     ensures { λ r. ⌜ r ≡ isIn slot (now (slots .entry)) ⌝ }
 {
     let mut i = 0;

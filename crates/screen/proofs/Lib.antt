@@ -1,0 +1,6 @@
+pub mod Chained
+pub mod Lengths
+pub mod Worded
+pub mod Drawn
+pub mod Screened
+pub mod Whole
