@@ -1,7 +1,6 @@
 """Where the programs are that `oracle/compare` and `bench/run` run, how they are built, and how they are asked."""
 import os, subprocess, sys
-from importlib.machinery import SourceFileLoader
-from importlib.util import module_from_spec, spec_from_loader
+import scripts
 
 ROOT = os.path.dirname(os.path.dirname(os.path.abspath(__file__)))
 BUILT = ROOT + '/target/oracle'
@@ -18,13 +17,13 @@ def build_oracle():
 
 
 def newest_source():
-    parts = [ROOT + '/oracle/' + p for p in ('brute', 'rust', 'gen', 'judge', 'lastmoves')]
+    parts = [ROOT + '/oracle/' + p for p in ('brute', 'rust', 'gen', 'judge', 'lastmoves', 'screen', 'scripts.py')]
     files = [os.path.join(d, f) for p in parts for d, _, names in os.walk(p) for f in names]
     return max(map(os.path.getmtime, files + parts))
 
 
 def programs(built, names=('lastmoves', 'ask')):
-    """The commands of these programs: LASTMOVES, ASK, SHOW_TABLES of the environment, else target/bin's, proved first unless `built`."""
+    """The commands of these programs: LASTMOVES, STEP, ASK, SHOW_TABLES of the environment, else target/bin's, proved first unless `built`."""
     own = [n for n in names if n.upper() not in os.environ]
     if own and not built and subprocess.run(['rt', 'check'] + own, cwd=ROOT, stdout=sys.stderr).returncode:
         sys.exit('rt check %s failed' % ' '.join(own))
@@ -44,10 +43,7 @@ def command(program):
 
 def load(name):
     """A script of the built oracle as a module."""
-    loader = SourceFileLoader(name, BUILT + '/' + name)
-    module = module_from_spec(spec_from_loader(name, loader))
-    loader.exec_module(module)
-    return module
+    return scripts.load(BUILT, name)
 
 
 def run(command, lines):

@@ -1,4 +1,5 @@
-"""What `compare` asks: of generated boards, lines for each verb of `ask`. The oracle has to be built before this is imported."""
+"""What `compare` asks: of generated boards, lines for each verb of `ask`, and the presses of `step`. The oracle has to be built before this is
+imported."""
 import itertools
 from programs import BRUTE, PORTED, ask, load
 
@@ -199,9 +200,20 @@ def into(length):
     return lines
 
 
-NO_VERBS = [b'', b'moves\t', b'\t', b'lists\t', b'raw ', b'piece', b'Count\t', b' strict\t', b'limite\t', b'cursor', b'gate,', b'unmak\xc3\t']
-FIELDS = {'raw': raw, 'piece': piece, 'attacked': attacked, 'setep': setep, 'cursor': cursor, 'gate': gate, 'print': into(lambda b: len(b.text)),
-          'listinto': into(lambda b: len(b.listed)), 'strictinto': into(lambda b: len(b.strict))}
+PRESSES = [b'', b'', b' ', b'n', b'Q', b' q', b'\x1b[A', b'\0', b'\r', b'press ' * 100]
+
+
+def sitting(rng, s):
+    """The lines of a text and its presses, up to the end of its list; of a long one 20, and `q`."""
+    long = len(s.listed) > 60
+    s.presses = 0 if s.refusal else 20 if long else len(s.listed) + 1
+    return [s.text] + [rng.choice(PRESSES) for _ in range(s.presses)] + ([b'q'] if long else [])
+
+
+NO_VERBS = [b'', b'moves\t', b'\t', b'lists\t', b'raw ', b'piece', b'Count\t', b' strict\t', b'limite\t', b'cursor', b'gate,', b'unmak\xc3\t',
+            b'press', b'presse\t']
+FIELDS = {'raw': raw, 'piece': piece, 'attacked': attacked, 'setep': setep, 'cursor': cursor, 'press': cursor, 'gate': gate,
+          'print': into(lambda b: len(b.text)), 'listinto': into(lambda b: len(b.listed)), 'strictinto': into(lambda b: len(b.strict))}
 
 
 def lines_of(verb, rng, boards, unmade):
