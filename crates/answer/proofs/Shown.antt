@@ -25,7 +25,7 @@ use Rattle.board.proofs.Numbers.{gate-passes}
 use Rattle.text.proofs.Tails.{print-short}
 use Rattle.feed.proofs.Added.{adds, added-len, added-out, added-length}
 use Rattle.report.proofs.Adding.{adds-then}
-use Rattle.report.proofs.Decimals.{decimal-added, decimal-short}
+use Rattle.report.proofs.Decimals.{number-short, decimal-added}
 use Rattle.answer.proofs.Sizes.{report-short}
 
 -- a copy to the front
@@ -49,27 +49,27 @@ written-added {t = t} {o = o} {out = out} {n = n} w =
 pub refused-shown : (r : Refusal) (o o₁ o₂ o₃ : List ℕ) (a d n x : ℕ) (v : Put) → length o ≡ 196608 → x < 2 ^ 64 → Adds o 0 word a o₁ → x ≡ numberOf r
     → PutsDecimal o₁ a x v o₂ → d ≡ usedOf v a → Adds o₂ d newline n o₃ → Shows (refusedText (numberOf r)) n o o₃
 refused-shown r o o₁ o₂ o₃ a d n x v l f p e q u w =
-    let s : length (decimalOf x) ≤ 20 = decimal-short o₁ o₂ a x v f q in
+    let s = number-short x f in
     let two = adds-then o o₁ o₂ word (decimalOf x) 0 a d (simp length-append (omega arith)) p (decimal-added o₁ o₂ a x v f q d u) in
     let three = adds-then o o₂ o₃ (word ++ decimalOf x) newline 0 d n (simp length-append (omega arith)) two w in
     subst (λ (i : ℕ). Shows (refusedText i) n o o₃) e (shown o o₃ (refusedText x) n three (simp length-append (omega arith)))
 
+pub text-short : (b : RetractableBoard) → length (textOn b) ≤ 81
+text-short b = print-short (menOn b) (b .turn) (b .white) (b .black) (b .passant)
+
 -- an accepted board's text and the report behind it
 module _ (b : RetractableBoard) (o o₁ : List ℕ) (m : ℕ) (l : length o ≡ 196608) where
-  text-short : length (textOn b) ≤ 81
-  text-short = print-short (menOn b) (b .turn) (b .white) (b .black) (b .passant)
-
   pub lists-shown : (listed strict : List ℕ) → length listed ≤ 8192 → length strict ≤ 8192 → (n r : ℕ) (o₂ o₃ : List ℕ) → Written (boardTests b) (textOn b) o m o₁
       → Adds o₁ m newline n o₂ → Adds o₂ n (reportOf listed strict) r o₃ → Shows (textOn b ++ newline ++ reportOf listed strict) r o o₃
   lists-shown listed strict u v n r o₂ o₃ k w x =
-      let s = text-short in
+      let s = text-short b in
       let y = report-short listed strict u v in
       let two = adds-then o o₁ o₂ (textOn b) newline 0 m n (simp length-append (omega arith)) (written-added k) w in
       let three = adds-then o o₂ o₃ (textOn b ++ newline) (reportOf listed strict) 0 n r (simp length-append (omega arith)) two x in
       shown o o₃ (textOn b ++ newline ++ reportOf listed strict) r three (simp length-append (omega arith))
 
   pub never-room : Roomless (boardTests b) (textOn b) o m o₁ → ⊥
-  never-room k = omega (arith, text-short, k .short)
+  never-room k = omega (arith, text-short b, k .short)
 
 -- a refusal has a number
 pub never-refused : (why : Refusal) → numberOf why ≡ 0 → ⊥

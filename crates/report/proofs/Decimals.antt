@@ -3,12 +3,12 @@ use mathlib.Core.Path.{_≡_, refl, sym, _∙_, ap, subst}
 use mathlib.Core.Bool.{Bool, true, false, cond}
 use mathlib.Core.List.{List, [], _∷_, _++_}
 use Prim.Native.Nat.{ℕ, zero, suc, _^_, _+_, _-_, _/_, _%_, _≤_, _<_}
-use native.Mathlib.Nat.{pow-le-pow-right, pow-suc, mod-eq-of-lt}
+use native.Mathlib.Nat.{pow-suc, mod-eq-of-lt}
 use native.Mathlib.Omega.{arith}
-use lib.Dec.{leb, ltb}
+use lib.Dec.{ltb}
 use lib.ListN.{length, take, length-append}
 use lib.Seq.{length-take-le}
-use borrow.Author.Tests.{ltb-true, ltb-false, leb-true, leb-false}
+use borrow.Author.Tests.{ltb-true, ltb-false}
 use Rattle.io.specs.Digits.{glyph, digits, Fewest}
 use Rattle.io.specs.Counts.{Counts}
 use Rattle.feed.specs.declared.Put.{Put}
@@ -46,21 +46,20 @@ digits-are (suc n) x k h f = by (ltb x 10) refl (λ l j g. digits-are n (x / 10)
         ∙ ap (λ (d : ℕ). glyph d ∷ []) (mod-eq-of-lt l)
     by false e r = let l = ltb-false x 10 e in digits-more x k (decimalIn n (x / 10)) l f (r l)
 
-length-digits : (k x : ℕ) → length (digits 10 k x) ≡ k
-length-digits zero x = refl
-length-digits (suc k) x = omega (arith, length-append (digits 10 k (x / 10)) (glyph (x % 10) ∷ []), length-digits k (x / 10))
-
--- twenty digits hold any number of 64 bits
-twenty : (x k : ℕ) → x < 2 ^ 64 → Fewest 10 1 x k → k ≤ 20
-twenty x k h p = by (leb k 20) refl
+-- a number below a power of ten has at most as many digits
+pub few-digits : (k n x : ℕ) → x < 10 ^ suc k → length (decimalIn n x) ≤ suc k
+unfolding decimalIn
+few-digits k zero x h = omega arith
+few-digits k (suc n) x h = by k (ltb x 10) refl h (λ j l. few-digits j n (x / 10) l)
   where
-    by : (t : Bool) → leb k 20 ≡ t → k ≤ 20
-    by true e = leb-true k 20 e
-    by false e =
-        let l = leb-false k 20 e in
-        let u : 10 ^ (k - 1) ≤ x = p .2 (omega arith) in
-        let w : 10 ^ 20 ≤ 10 ^ (k - 1) = pow-le-pow-right {n = 10} (omega arith) {i = 20} {j = k - 1} (omega arith) in
-        absurd (omega arith)
+    by : (k : ℕ) (t : Bool) → ltb x 10 ≡ t → x < 10 ^ suc k → ((j : ℕ) → x / 10 < 10 ^ suc j → length (decimalIn n (x / 10)) ≤ suc j)
+        → length (cond t (glyph x ∷ []) (decimalIn n (x / 10) ++ (glyph (x % 10) ∷ []))) ≤ suc k
+    by k true e h r = omega arith
+    by zero false e h r = absurd (omega (arith, ltb-false x 10 e))
+    by (suc k) false e h r = simp length-append (omega (arith, r k (omega (arith, pow-suc 10 (suc k)))))
+
+pub number-short : (x : ℕ) → x < 2 ^ 64 → length (decimalOf x) ≤ 20
+number-short x h = few-digits 19 (suc x) x (omega arith)
 
 module _ (o after : List ℕ) (len x : ℕ) (r : Put) (h : x < 2 ^ 64) (a : PutsDecimal o len x r after) where
   same : digits 10 (a .places) x ≡ decimalOf x
@@ -70,15 +69,12 @@ module _ (o after : List ℕ) (len x : ℕ) (r : Put) (h : x < 2 ^ 64) (a : Puts
   decimal-added u e =
       used-adds o (decimalOf x) after len r (subst (λ (t : List ℕ). Puts o len t r after) same (a .puts)) u e
 
-  pub decimal-short : length (decimalOf x) ≤ 20
-  decimal-short = omega (arith, ap length same, length-digits (a .places) x, twenty x (a .places) h (a .fewest))
-
 -- the head, in a buffer of 64
 module _ (o o₁ o₂ o₃ o₄ o₅ : List ℕ) (a b n₁ n₂ n₃ n₄ n : ℕ) (r s : Put) (l : length o ≡ 64) (ha : a < 2 ^ 64) (hb : b < 2 ^ 64) (p₁ : Adds o 0 listedWord n₁ o₁)
     (p₂ : PutsDecimal o₁ n₁ a r o₂) (u₂ : n₂ ≡ usedOf r n₁) (p₃ : Adds o₂ n₂ strictWord n₃ o₃) (p₄ : PutsDecimal o₃ n₃ b s o₄) (u₄ : n₄ ≡ usedOf s n₃)
     (p₅ : Adds o₄ n₄ (10 ∷ []) n o₅) where
   short : (length (decimalOf a) ≤ 20) × (length (decimalOf b) ≤ 20)
-  short = (decimal-short o₁ o₂ n₁ a r ha p₂, decimal-short o₃ o₄ n₃ b s hb p₄)
+  short = (number-short a ha, number-short b hb)
 
   two : Adds o 0 (listedWord ++ decimalOf a) n₂ o₂
   two =

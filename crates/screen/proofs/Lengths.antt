@@ -1,40 +1,23 @@
 -- How long the words are.
 use mathlib.Core.Path.{_≡_, refl, ap}
 use mathlib.Core.Bool.{Bool, true, false, cond}
-use mathlib.Core.List.{List, [], _∷_, _++_}
-use Prim.Native.Nat.{ℕ, zero, suc, _+_, _^_, _/_, _%_, _≤_, _<_}
+use mathlib.Core.List.{List, [], _++_}
+use Prim.Native.Nat.{ℕ, zero, suc, _+_, _^_, _≤_, _<_}
 use Prim.Native.String.{String, len, slice}
-use native.Mathlib.Nat.{pow-suc}
 use native.Mathlib.Omega.{arith}
 use lib.Dec.{ltb}
 use lib.ListN.{length, length-append}
-use borrow.Author.Tests.{ltb-false}
-use Rattle.io.specs.Digits.{glyph}
 use Rattle.geometry.specs.declared.Color.{Color}
 use Rattle.geometry.specs.declared.Color.the-variants.{White, Black}
 use Rattle.laws.specs.declared.ChessRetraction.{ChessRetraction}
-use Rattle.report.specs.Report.{decimalIn, decimalOf}
+use Rattle.report.specs.Report.{decimalOf}
+use Rattle.report.proofs.Decimals.{number-short}
 use Rattle.screen.specs.Words.{bytesIn, bytes, sideName, nameOf, movedKind, wayText, passes, castles, deedText, becomingText, verdictText, subjectText, wordsOf}
 
 pub length-bytes : (n : ℕ) (s : String) → length (bytesIn n s) ≡ n
 unfolding bytesIn
 length-bytes zero s = refl
 length-bytes (suc n) s = ap suc (length-bytes n (slice s 1 (len s)))
-
--- a number below a power of ten has at most as many digits
-few-digits : (k n x : ℕ) → x < 10 ^ suc k → length (decimalIn n x) ≤ suc k
-unfolding decimalIn
-few-digits k zero x h = omega arith
-few-digits k (suc n) x h = by k (ltb x 10) refl h (λ j l. few-digits j n (x / 10) l)
-  where
-    by : (k : ℕ) (t : Bool) → ltb x 10 ≡ t → x < 10 ^ suc k → ((j : ℕ) → x / 10 < 10 ^ suc j → length (decimalIn n (x / 10)) ≤ suc j)
-        → length (cond t (glyph x ∷ []) (decimalIn n (x / 10) ++ (glyph (x % 10) ∷ []))) ≤ suc k
-    by k true e h r = omega arith
-    by zero false e h r = absurd (omega (arith, ltb-false x 10 e))
-    by (suc k) false e h r = simp length-append (omega (arith, r k (omega (arith, pow-suc 10 (suc k)))))
-
-pub number-short : (x : ℕ) → x < 2 ^ 64 → length (decimalOf x) ≤ 20
-number-short x h = few-digits 19 (suc x) x (omega arith)
 
 pub counted-short : (t : List ℕ) (x : ℕ) → x < 2 ^ 64 → length (t ++ decimalOf x) ≤ length t + 20
 counted-short t x h = omega (arith, length-append t (decimalOf x), number-short x h)

@@ -15,7 +15,7 @@ use Rattle.accept.specs.Verdicts.{numberOf, verdictNumber}
 use Rattle.accept.specs.Said.{Test, firstFailing}
 use Rattle.board.specs.declared.RetractableBoard.{RetractableBoard}
 use Rattle.board.specs.declared.Boarded.{Boarded}
-use Rattle.board.specs.Gate.{menOn, boardTests, noBoard}
+use Rattle.board.specs.Gate.{boardTests, noBoard}
 use Rattle.board.specs.Said.{Boards}
 use Rattle.text.specs.Entries.{textOn}
 use Rattle.retraction_gen.specs.declared.RetractionGen.{RetractionGen}
@@ -27,9 +27,9 @@ use Rattle.feed.specs.Appending.{Adds}
 use Rattle.report.specs.Report.{decimalOf, isIn}
 use Rattle.answer.specs.Replies.{newline, refusedText, Shows}
 use Rattle.accept.proofs.Tested.{beside-none, beside-refused}
-use Rattle.accept.proofs.Writing.{Written, Roomless, Failed}
-use Rattle.text.proofs.Tails.{print-short}
-use Rattle.answer.proofs.Shown.{shown, written-added}
+use Rattle.accept.proofs.Writing.{Written, Failed}
+use Rattle.report.proofs.Decimals.{number-short}
+use Rattle.answer.proofs.Shown.{shown, written-added, text-short}
 use Rattle.stepping.proofs.Ranged.{next-range}
 use Rattle.screen.specs.declared.Screen.{Screen}
 use Rattle.screen.specs.declared.Pressed.{Pressed}
@@ -37,7 +37,7 @@ use Rattle.screen.specs.Words.{bytes, sideName, wordsOf}
 use Rattle.screen.specs.Diagrams.{diagramOf}
 use Rattle.screen.specs.Screens.{drawingOf, openingOf, openingText, boardBefore, sourceKind, retractionText, endText, oneMore, ShownBy, Shown}
 use Rattle.screen.proofs.Chained.{three-added, four-added, five-added}
-use Rattle.screen.proofs.Lengths.{length-bytes, number-short, side-short, words-short}
+use Rattle.screen.proofs.Lengths.{length-bytes, side-short, words-short}
 use Rattle.screen.proofs.Drawn.{diagram-length}
 
 -- a board that was made, or another where it was refused
@@ -49,9 +49,6 @@ module _ (ts : List Test) (x b : RetractableBoard) (z : Boarded) (k : Boards ts 
 
   pub left : (why : Refusal) → z .verdict ≡ Refused why → b ≡ cond (eqb (firstFailing ts) 0) x b
   left why h = beside-refused ts x b why (sym (ap verdictNumber h) ∙ k .number)
-
-pub text-short : (b : RetractableBoard) → length (textOn b) ≤ 81
-text-short b = print-short (menOn b) (b .turn) (b .white) (b .black) (b .passant)
 
 module _ (o : List ℕ) (l : length o ≡ 196608) where
   -- the board before is e
@@ -102,9 +99,6 @@ module _ (o : List ℕ) (l : length o ≡ 196608) where
       subst (λ (t : List ℕ). Shows t n o o₂)
       (ap refusedText (k .number) ∙ beside-refused (boardTests b) (openingOf b) (refusedText (firstFailing (boardTests b))) why (k .number))
       (subst (λ (x : List ℕ). Shows (refusedText (numberOf why)) n x o₂) (k .holds) s)
-
-  pub never-roomless : (b : RetractableBoard) {m : ℕ} {o₁ : List ℕ} → Roomless (boardTests b) (textOn b) o m o₁ → ⊥
-  never-roomless b k = omega (arith, text-short b, k .short)
 
 -- a retraction with its number and its sign
 pub retraction-is : (s : Screen) (g : RetractionGen) (r : ChessRetraction) (slots : List ℕ) {n slot more size : ℕ} {q : Bool} {o out : List ℕ}

@@ -2,10 +2,11 @@
 use mathlib.Core.Path.{_≡_, refl, sym, ap, ap₂, _∙_, subst}
 use mathlib.Core.Logic.{_↔_}
 use mathlib.Core.Bool.{Bool, true, false, false≢true}
-use mathlib.Core.List.{List, [], _∷_, _++_, map}
+use mathlib.Core.List.{List, [], _∷_, map}
 use Prim.Native.Nat.{ℕ}
 use lib.Dec.{eqb}
 use lib.ListN.{length, take, drop}
+use lib.Seq.{take-append-seam}
 use borrow.Author.Tests.{eqb-true, eq-eqb}
 use Rattle.squares.specs.Tests.{_or_}
 use Rattle.laws.specs.declared.ChessRetraction.{ChessRetraction}
@@ -77,13 +78,9 @@ strict-said b moves g k r h = (
   (λ p. in-slots r h moves (k .members r .1 p)),
 )
 
-take-front : (t u : List ℕ) → take (length t) (t ++ u) ≡ t
-take-front [] u = refl
-take-front (x ∷ t) u = ap (λ (l : List ℕ). x ∷ l) (take-front t u)
-
 -- what a press shows stands in the first bytes
 shown-bytes : {t o out : List ℕ} {n : ℕ} → Shows t n o out → take n out ≡ t
-shown-bytes {t} {o} {out} {n} k = ap₂ take (k .size) (k .holds) ∙ take-front t (drop (length t) o)
+shown-bytes {t} {o} {out} {n} k = ap₂ take (k .size) (k .holds) ∙ take-append-seam t (drop (length t) o)
 
 -- presses of a screen whose cursor yields a list
 shows-list : (s : Screen) (slots : List ℕ) (ts : List (List ℕ)) (l : List ChessRetraction) → Yields (s .cursor) l → ShowsAll s slots ts

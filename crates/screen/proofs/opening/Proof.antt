@@ -3,8 +3,9 @@ use native.Mathlib.Omega.{arith}
 use borrow.Author.Needs.{needs}
 use Rattle.screen.specs.Words.{bytesIn}
 use Rattle.text.proofs.Printing.{printing-tells}
+use Rattle.answer.proofs.Shown.{text-short, never-room}
 use Rattle.screen.proofs.Chained.{ends}
-use Rattle.screen.proofs.Screened.{text-short, opening-shown, refusal-shown, never-roomless}
+use Rattle.screen.proofs.Screened.{opening-shown, refusal-shown}
 use Rattle.screen.proofs.opening.Statement.{statement}
 use Rattle.screen.proofs.opening.Tie as tie
 
@@ -49,7 +50,7 @@ unfolding bytesIn
 returns c = let b = c .before .before .before .before .before .before .before .before .before .before .before .before .before .before .before .args .b in opening-shown _ (search needs) b (printing-tells b _ (c .before .before .before .before .before .before .before .before .before .before .before .before .before .print .ensures) _ (c .before .before .before .before .before .before .before .before .before .before .before .p .given .1)) (c .before .before .before .before .before .before .before .put .ensures) (c .before .before .before .before .before .put-board .ensures) (c .before .before .before .put-side .ensures) (c .put2 .ensures)
 
 returns-2 : tie.Need-returns-2
-returns-2 c = let b = c .before .before .before .before .args .b in absurd (never-roomless _ (search needs) b (printing-tells b _ (c .before .before .print .ensures) _ (c .enum-told .given .1)))
+returns-2 c = let b = c .before .before .before .before .args .b in absurd (never-room b _ _ _ (search needs) (printing-tells b _ (c .before .before .print .ensures) _ (c .enum-told .given .1)))
 
 returns-3 : tie.Need-returns-3
 returns-3 c = let b = c .before .before .before .before .before .before .before .args .b in refusal-shown _ (search needs) b _ (printing-tells b _ (c .before .before .before .before .before .print .ensures) _ (c .before .before .before .p2 .given .1)) (c .put-refused .ensures)
