@@ -2,10 +2,12 @@
 use mathlib.Core.Path.{_≡_, refl, sym, ap, _∙_, subst}
 use mathlib.Core.Bool.{Bool, true}
 use mathlib.Core.List.{List}
-use Prim.Native.Nat.{ℕ, zero, suc, _+_, _<_, _^_}
+use Prim.Native.Nat.{ℕ, zero, suc, _+_, _<_, _≤_, _^_}
 use native.Mathlib.Nat.{not-suc-le-zero, le-of-suc-le-suc}
+use native.Mathlib.Omega.{arith}
 use lib.Dec.{eqb, leb}
-use lib.ListN.{length, getD}
+use lib.Pow.{pow-pos}
+use lib.ListN.{length, getD, List·getD-eq-default}
 use lib.Seq.{ext-getD}
 use Rattle.squares.specs.Tests.{_and_}
 use Rattle.squares.specs.Squares.{has, flag, setOf}
@@ -14,7 +16,7 @@ use Rattle.geometry.specs.declared.Color.the-variants.{White, Black}
 use Rattle.laws.specs.declared.Piece.{Piece}
 use Rattle.laws.specs.declared.Piece.the-variants.{Pawn, Knight, Bishop, Rook, Queen, King}
 use Rattle.laws.specs.Men.{Man, isOf, isKind}
-use Rattle.laws.specs.Boards.{kindSet, colorSet, kindBy, manBy, menAt, kindsAt, colorsAt, menOk, kindSets, colorSets, Clean}
+use Rattle.laws.specs.Boards.{kindSet, colorSet, kindBy, manBy, menAt, kindsAt, colorsAt, menOk, kindSets, colorSets, Clean, Board, Shaped}
 use Rattle.squares.proofs.Testing.{agree, agree-eq}
 use Rattle.squares.proofs.Comprehension.{is-upTo}
 use Rattle.squares.proofs.Every.{all-at}
@@ -121,3 +123,25 @@ clean pieces colors six two bp bc ok = record {
     colour-at zero l = colour-is White
     colour-at (suc zero) l = colour-is Black
     colour-at (suc (suc i)) l = absurd (not-suc-le-zero (le-of-suc-le-suc (le-of-suc-le-suc l)))
+
+-- the sets of a shaped board are of 64 squares, and past them the arrays have none
+beyond : (l : List ℕ) (i : ℕ) → length l ≤ i → getD l i 0 < 2 ^ 64
+beyond l i h = subst (λ (x : ℕ). x < 2 ^ 64) (sym (List·getD-eq-default l 0 h)) (pow-pos 64)
+
+module _ (b : Board) (shape : Shaped b) where
+  kinds-bounded : Bounded (b .pieces)
+  kinds-bounded zero = shape .kinds-fit Pawn
+  kinds-bounded (suc zero) = shape .kinds-fit Knight
+  kinds-bounded (suc (suc zero)) = shape .kinds-fit Bishop
+  kinds-bounded (suc (suc (suc zero))) = shape .kinds-fit Rook
+  kinds-bounded (suc (suc (suc (suc zero)))) = shape .kinds-fit Queen
+  kinds-bounded (suc (suc (suc (suc (suc zero))))) = shape .kinds-fit King
+  kinds-bounded (suc (suc (suc (suc (suc (suc i)))))) = beyond (b .pieces) (suc (suc (suc (suc (suc (suc i)))))) (omega (arith, shape .six))
+
+  colours-bounded : Bounded (b .colors)
+  colours-bounded zero = shape .colors-fit White
+  colours-bounded (suc zero) = shape .colors-fit Black
+  colours-bounded (suc (suc i)) = beyond (b .colors) (suc (suc i)) (omega (arith, shape .two))
+
+  pub shaped-clean : menOk (b .pieces) (b .colors) ≡ true → Clean (b .pieces) (b .colors)
+  shaped-clean = clean (b .pieces) (b .colors) (shape .six) (shape .two) kinds-bounded colours-bounded

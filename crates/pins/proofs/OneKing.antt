@@ -3,13 +3,15 @@ use mathlib.Core.Path.{_≡_, refl, sym, ap, ap₂, _∙_, subst}
 use mathlib.Core.Bool.{Bool, true, false, not}
 use mathlib.Core.List.{List}
 use Prim.Native.Nat.{ℕ, _<_, _^_, _-_}
-use native.Mathlib.Nat.{lt-of-le-of-lt}
+use native.Mathlib.Nat.{lt-of-le-of-lt, mod-eq-of-lt}
 use native.Mathlib.Omega.{arith}
 use lib.Dec.{eqb}
+use lib.Count.{trailingZeros}
 use lib.Bits.{bitAnd, and-le-l}
 use borrow.Author.Tests.{eqb-true, eq-eqb, lt-ltb}
 use Rattle.squares.specs.Tests.{_and_, _or_}
 use Rattle.squares.specs.Squares.{has, setOf, size, someSquare, united, Least, LeastOr64}
+use Rattle.squares.specs.Members.{firstOf}
 use Rattle.geometry.specs.declared.Color.{Color}
 use Rattle.geometry.specs.declared.Color.the-variants.{White, Black}
 use Rattle.geometry.specs.Colors.{opp}
@@ -30,6 +32,8 @@ use Rattle.squares.proofs.Comprehension.{is-upTo, upTo-lt, upTo-cong, has-setOf
 use Rattle.squares.proofs.Every.{all-of, any-of, any-at, any-cong, not-all}
 use Rattle.squares.proofs.Counting.{count-empty}
 use Rattle.squares.proofs.Singles.{one-at}
+use Rattle.squares.proofs.LeastMember.{least-or-64}
+use Rattle.squares.proofs.Members.{first-is}
 use Rattle.geometry.proofs.Turned.{straight-sym, diagonal-sym}
 use Rattle.laws.proofs.Cases.{every, everyMan, by-cases, by-men, by-colors}
 use Rattle.laws.proofs.ManSets.{has-kind, kind-lt}
@@ -61,6 +65,19 @@ the-king m c q ok l = record { here = low .0; only = λ a h. sym (has-menOf m c 
 
     low : (q < 64) × Least (menOf m c King) q
     low = l .some (some-king (menOf m c King) one)
+
+-- `to_square` gives its square
+pub first-king : (m : Men) (c : Color) → kingsOk m ≡ true → TheKing m c (firstOf (menOf m c King))
+first-king m c ok = subst (λ (q : ℕ). TheKing m c q) (sym (mod-eq-of-lt (the .here)) ∙ first-is (menOf m c King) lowest least) the
+  where
+    lowest : ℕ
+    lowest = trailingZeros 64 (menOf m c King)
+
+    least : LeastOr64 (menOf m c King) lowest
+    least = least-or-64 (menOf m c King) (menOf-lt m c King)
+
+    the : TheKing m c lowest
+    the = the-king m c lowest ok least
 
 at-one : (q : ℕ) (f : ℕ → Bool) → q < 64 → someSquare (λ a. eqb a q and f a) ≡ f q
 at-one q f h = bool-ext (someSquare (λ a. eqb a q and f a)) (f q) to (λ e. any-of 64 (λ a. eqb a q and f a) q h (both (eq-eqb q q refl) e))

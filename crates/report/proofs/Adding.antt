@@ -11,6 +11,7 @@ use lib.ListN.{length, getD, take, drop, length-append, take-append-drop}
 use lib.Seq.{paste, paste-zero, take-length, take-suc, drop-drop, drop-paste}
 use Rattle.squares.specs.Members.{concat}
 use Rattle.feed.specs.Appending.{Adds}
+use Rattle.squares.proofs.Members.{concat-both}
 use Rattle.feed.proofs.Added.{adds, added-len, added-out, added-bytes, added-length}
 
 pub adds-as : (o x b d : List ℕ) (len r : ℕ) → Adds o len b r x → b ≡ d → Adds o len d r x
@@ -57,11 +58,6 @@ module _ (o x y b c : List ℕ) (len r s : ℕ) (room : len + length (b ++ c) �
       ap₂ (λ (i j : List ℕ). i ++ j) (added-bytes o b x len r p first) (take-length c)
       ∙ append-assoc (take len o) b c ∙ ap (λ (i : List ℕ). take len o ++ i) (sym (take-length (b ++ c))) in
       subst (λ (i : ℕ). Adds o len (b ++ c) i y) (sym e) (adds o (b ++ c) len room y (y-is ∙ ap₂ (λ (i j : List ℕ). i ++ j) front behind))
-
-concat-both : (f : ℕ → List ℕ) (xs ys : List ℕ) → concat f (xs ++ ys) ≡ concat f xs ++ concat f ys
-unfolding concat
-concat-both f [] ys = refl
-concat-both f (x ∷ xs) ys = ap (λ (l : List ℕ). f x ++ l) (concat-both f xs ys) ∙ sym (append-assoc (f x) (concat f xs) (concat f ys))
 
 -- the text of one member more
 module _ (f : ℕ → List ℕ) (l : List ℕ) (i : ℕ) (h : i < length l) where

@@ -1,7 +1,7 @@
 -- Lists whose sources are squares, by the ways that lists are made.
-use mathlib.Core.Path.{_≡_, refl, sym, ap, _∙_, subst}
+use mathlib.Core.Path.{_≡_, refl, sym, subst}
 use mathlib.Core.Bool.{Bool, true, false, cond}
-use mathlib.Core.List.{List, [], _∷_, _++_, append-assoc}
+use mathlib.Core.List.{List, [], _∷_, _++_}
 use Prim.Native.Nat.{ℕ, zero, suc, _<_}
 use native.Mathlib.Nat.{not-suc-le-zero, le-of-suc-le-suc, le-refl}
 use native.Mathlib.Omega.{arith}
@@ -14,6 +14,7 @@ use Rattle.roll.specs.declared.UnCaptureKind.{UnCaptureKind}
 use Rattle.roll.specs.declared.SourceAndTargets.{SourceAndTargets}
 use Rattle.roll.specs.Roll.{entryOf, noEntry, offered, placed}
 use Rattle.squares.proofs.Testing.{both, left, right}
+use Rattle.squares.proofs.Members.{concat-both}
 
 pub placed-none : placed [] ≡ true
 unfolding placed
@@ -35,11 +36,6 @@ pub placed-both : (xs ys : List SourceAndTargets) → placed xs ≡ true → pla
 unfolding placed
 placed-both [] ys p q = q
 placed-both (x ∷ xs) ys p q = both (left _ _ p) (placed-both xs ys (right _ _ p) q)
-
-concat-both : (f : ℕ → List SourceAndTargets) (xs ys : List ℕ) → concat f (xs ++ ys) ≡ concat f xs ++ concat f ys
-unfolding concat
-concat-both f [] ys = refl
-concat-both f (x ∷ xs) ys = ap (λ (l : List SourceAndTargets). f x ++ l) (concat-both f xs ys) ∙ sym (append-assoc (f x) (concat f xs) (concat f ys))
 
 placed-up-to : (n : ℕ) (p : ℕ → Bool) (f : ℕ → List SourceAndTargets) → ((k : ℕ) → k < n → placed (f k) ≡ true) → placed (concat f (listTo n p)) ≡ true
 unfolding listTo concat

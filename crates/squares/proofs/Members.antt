@@ -3,14 +3,14 @@
 use mathlib.Core.Path.{_≡_, refl, sym, ap, ap₂, _∙_, subst}
 use mathlib.Core.Logic.{_⊎_, inl, inr, ⊎-elim}
 use mathlib.Core.Bool.{Bool, true, false, not, cond}
-use mathlib.Core.List.{List, [], _∷_, _++_}
+use mathlib.Core.List.{List, [], _∷_, _++_, append-assoc}
 use Prim.Native.Nat.{ℕ, zero, suc, _%_, _^_, _<_, _≤_}
 use native.Mathlib.Nat.{le-refl, le-suc, le-trans, lt-trans, mod-eq-of-lt, not-suc-le-zero, zero-lt-suc}
 use native.Mathlib.Omega.{arith}
 use borrow.Author.Tests.{eq-eqb, ne-eqb}
 use Rattle.squares.specs.Tests.{_and_}
 use Rattle.squares.specs.Squares.{has, setOf, besides, LeastOr64}
-use Rattle.squares.specs.Members.{listTo, members, headOr, firstOf, forEach}
+use Rattle.squares.specs.Members.{listTo, members, headOr, firstOf, forEach, concat}
 use Rattle.squares.proofs.Testing.{order, and-true, and-false}
 use Rattle.squares.proofs.Digits.{has-zero}
 use Rattle.squares.proofs.Comprehension.{has-setOf}
@@ -86,6 +86,12 @@ list-head-lt (suc n) p h = head-lt (listTo n p) (cond (p n) (n ∷ []) []) (list
 pub first-lt : (s : ℕ) → firstOf s < 64
 unfolding firstOf members
 first-lt s = list-head-lt 64 (has s) (le-refl 64)
+
+-- what is collected from two lists of members, one behind the other
+pub concat-both : {A : Type 0} (f : ℕ → List A) (xs ys : List ℕ) → concat f (xs ++ ys) ≡ concat f xs ++ concat f ys
+unfolding concat
+concat-both f [] ys = refl
+concat-both {A} f (x ∷ xs) ys = ap (λ (l : List A). f x ++ l) (concat-both f xs ys) ∙ sym (append-assoc (f x) (concat f xs) (concat f ys))
 
 -- the loop's invariant: what there is, with the members left still to come, makes the whole
 pub record Going {A : Type 0} (f : A → ℕ → A) (start : A) (set : ℕ) (x : A) (left : ℕ) : Type 0 where
