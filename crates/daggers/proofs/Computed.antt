@@ -1,17 +1,15 @@
 -- The ported list on boards of document 01, computed.
 use mathlib.Core.Path.{_≡_, refl}
 use mathlib.Core.Bool.{false}
-use mathlib.Core.List.{List, [], _∷_}
+use mathlib.Core.List.{[], _∷_}
 use Rattle.squares.specs.Tests.{_and_, _or_}
 use Rattle.squares.specs.Squares.{has, upTo, countTo, allTo, anyTo}
 use Rattle.squares.specs.Members.{listTo, members, firstOf, forEach, concat}
 use Rattle.geometry.specs.Lines.{sameRank, sameFile, sameDiagonal, straight, diagonal, between, betweenOf, line, clear}
 use Rattle.geometry.specs.Steps.{knightStep, kingStep, pawnTakes}
 use Rattle.laws.specs.Boards.{menAt, kindSets, colorSets}
-use Rattle.board.specs.declared.RetractableBoard.{RetractableBoard}
-use Rattle.roll.specs.declared.SourceAndTargets.{SourceAndTargets}
 use Rattle.roll.specs.declared.UnCaptureKind.the-variants.{Optional, Necessary, Forbidden, UnEnPassant}
-use Rattle.roll.specs.Roll.{entryOf, holding, fullList, answerOf, offered, captureKind}
+use Rattle.roll.specs.Roll.{entryOf, offered, captureKind}
 use Rattle.scene.specs.Chess.{adjacentFiles, backOf}
 use Rattle.scene.specs.Scenes.{castlingRooks, within, sceneOf}
 use Rattle.enumerate.specs.Lists.{lesserOf, kindsOf, byCheckers, namedOf, listedOf, listOf}
@@ -19,6 +17,7 @@ use Rattle.placement.specs.Letters.{numberOf, widthOf, placeOf, manOf, menOf}
 use Rattle.placement.specs.Placement.{runText, squaresFrom, ranksText, menText}
 use Rattle.text.specs.Form.{printOf}
 use Rattle.text.specs.Reading.{rightOf, squareOf, stepMen, stepTail, stepOf, runOf}
+use Rattle.retraction_gen.specs.Making.{listOn}
 use Rattle.daggers.specs.Names.{square}
 use Rattle.daggers.specs.Table.{OnText}
 use Rattle.daggers.proofs.Texts.{on-text}
@@ -27,17 +26,10 @@ use Rattle.pawns.specs.Pawns as pawns
 use Rattle.passants.specs.Passants as passants
 use Rattle.kings.specs.Kings as kings
 
--- the ported list of a board
-abbrev list : RetractableBoard → List SourceAndTargets
-list b = listOf (b .pieces) (b .colors) (b .combined) (b .turn) (b .white) (b .black) (b .pinned) (b .checkers) (b .passant)
-
--- three boards, the one that is FULL, and "without the knight on h1, 47 entries"
 pub computed :
     OnText "4k3/8/8/8/4K3/8/8/4R3 b - -"
-    (λ b. list b ≡ entryOf (square "e1") 0x1010ef Optional false ∷ entryOf (square "e4") 0x1000000000 Optional false ∷ entryOf (square "e4") 0x2828380000 Necessary false ∷ [])
-    × OnText "8/4k3/3P4/8/8/8/8/4R2K b - -" (λ b. list b ≡ entryOf (square "d6") 0x1000000000 Necessary false ∷ entryOf (square "d6") 0x1400000000 UnEnPassant false ∷ [])
-    × OnText "4k3/8/8/8/3pP3/8/8/4K3 b - e4" (λ b. list b ≡ entryOf (square "e4") 0x1000 Forbidden false ∷ [])
-    × OnText "k7/8/PPPPPPPP/8/PPPPPPPP/8/8/KNNNNNNN b - -" (λ b. answerOf (list b) ≡ fullList)
-    × OnText "k7/8/PPPPPPPP/8/PPPPPPPP/8/8/KNNNNNN1 b - -" (λ b. answerOf (list b) .len ≡ 47)
-unfolding numberOf widthOf placeOf manOf menOf runText squaresFrom ranksText menText printOf rightOf squareOf stepMen stepTail stepOf runOf answerOf fullList holding menAt kindSets colorSets has upTo countTo allTo anyTo listTo members firstOf forEach concat sameRank sameFile sameDiagonal straight diagonal between betweenOf line clear knightStep kingStep pawnTakes offered captureKind adjacentFiles backOf castlingRooks within sceneOf officers.movesOf officers.stepsOf officers.quietOf officers.freeOf officers.fromOf officers.eachOf officers.calmOf officers.aloneAt officers.aloneOf officers.ontoOf officers.bothAt officers.bothOf officers.officerOf pawns.candidateRetractors pawns.otherRayOf pawns.doubledOf pawns.crossedOf pawns.vacantOf pawns.homeOf pawns.unpushOf pawns.uncaptureOf pawns.fromOf pawns.stepsOf passants.besideReborn passants.underOne passants.raysOf passants.oneOfTwo passants.twoOthers passants.underTwo passants.underOf passants.passantAt passants.passantOf passants.pawnOf kings.farOf kings.nearOf kings.attackedOf kings.stepsOf kings.steppedOf kings.safeOf kings.castledOf kings.shortOf kings.longOf kings.uncastledOf kings.kingOf lesserOf kindsOf byCheckers namedOf listedOf listOf _and_ _or_
-computed = (on-text _ refl refl _ refl, on-text _ refl refl _ refl, on-text _ refl refl _ refl, on-text _ refl refl _ refl, on-text _ refl refl _ refl)
+    (λ b. listOn b ≡ entryOf (square "e1") 0x1010ef Optional false ∷ entryOf (square "e4") 0x1000000000 Optional false ∷ entryOf (square "e4") 0x2828380000 Necessary false ∷ [])
+    × OnText "8/4k3/3P4/8/8/8/8/4R2K b - -" (λ b. listOn b ≡ entryOf (square "d6") 0x1000000000 Necessary false ∷ entryOf (square "d6") 0x1400000000 UnEnPassant false ∷ [])
+    × OnText "4k3/8/8/8/3pP3/8/8/4K3 b - e4" (λ b. listOn b ≡ entryOf (square "e4") 0x1000 Forbidden false ∷ [])
+unfolding numberOf widthOf placeOf manOf menOf runText squaresFrom ranksText menText printOf rightOf squareOf stepMen stepTail stepOf runOf listOn menAt kindSets colorSets has upTo countTo allTo anyTo listTo members firstOf forEach concat sameRank sameFile sameDiagonal straight diagonal between betweenOf line clear knightStep kingStep pawnTakes offered captureKind adjacentFiles backOf castlingRooks within sceneOf officers.movesOf officers.stepsOf officers.quietOf officers.freeOf officers.fromOf officers.eachOf officers.calmOf officers.aloneAt officers.aloneOf officers.ontoOf officers.bothAt officers.bothOf officers.officerOf pawns.candidateRetractors pawns.otherRayOf pawns.doubledOf pawns.crossedOf pawns.vacantOf pawns.homeOf pawns.unpushOf pawns.uncaptureOf pawns.fromOf pawns.stepsOf passants.besideReborn passants.underOne passants.raysOf passants.oneOfTwo passants.twoOthers passants.underTwo passants.underOf passants.passantAt passants.passantOf passants.pawnOf kings.farOf kings.nearOf kings.attackedOf kings.stepsOf kings.steppedOf kings.safeOf kings.castledOf kings.shortOf kings.longOf kings.uncastledOf kings.kingOf lesserOf kindsOf byCheckers namedOf listedOf listOf _and_ _or_
+computed = (on-text _ refl refl _ refl, on-text _ refl refl _ refl, on-text _ refl refl _ refl)

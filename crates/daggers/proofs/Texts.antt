@@ -40,10 +40,10 @@ boardIn t = fieldBoard (fieldsIn t)
 
 -- a text that the printer gives back, of an accepted position
 module _ (t : String) (prints : printed (fieldsIn t) ≡ bytes t) (lawful : accepted (posOn (boardIn t)) ≡ true) where
-  says : Says (fieldsIn t) (bytes t)
+  pub says : Says (fieldsIn t) (bytes t)
   says = in-form (bytes t) (rawOf (runOf startOf (bytes t))) (bytes t) true refl (sym prints) refl refl
 
-  gate : gateOf (boardIn t) ≡ Accepted
+  pub gate : gateOf (boardIn t) ≡ Accepted
   gate =
       gate-by (boardIn t)
       (both (both (says-men-ok (bytes t) (fieldsIn t) says) lawful)

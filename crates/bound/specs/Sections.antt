@@ -1,0 +1,35 @@
+-- How many entries each section of the ported list can have.
+use mathlib.Core.Bool.{Bool}
+use Prim.Native.Nat.{ℕ, _+_, _*_}
+use lib.Bits.{bitAnd}
+use Rattle.squares.specs.Tests.{_or_}
+use Rattle.squares.specs.Squares.{flag, size}
+use Rattle.laws.specs.declared.Piece.the-variants.{Knight, Bishop, Rook, Queen}
+use Rattle.laws.specs.Men.{kindPlace}
+use Rattle.scene.specs.declared.Scene.{Scene}
+use Rattle.officers.specs.Officers.{menOf, freeOf}
+use Rattle.pawns.specs.Pawns.{pawnsOf, candidateRetractors}
+use Rattle.kings.specs.Kings.{shortOf, longOf}
+
+-- the checkers of a kind, by its place among the six: `checkers & pieces & !castling_rooks`
+abbrev pub checkersOf : Scene → ℕ → ℕ
+checkersOf s k = bitAnd (s .checkers) (freeOf s k)
+
+-- knights, bishops, rooks and queens: an entry for each, and a second for one that checks
+abbrev pub officerEntries : Scene → ℕ → ℕ
+officerEntries s k = size (menOf s k) + size (checkersOf s k)
+
+-- the king is listed with an un-castling
+abbrev pub castled : Scene → ℕ → Bool
+castled s n = shortOf s n or longOf s n
+
+-- the most entries that the list can have with n checkers, section by section
+abbrev pub entriesOf : Scene → ℕ → ℕ
+entriesOf s n =
+    -- an un-push and an uncapture for each pawn and each man on the last rank, but those that the checkers rule out
+    2 * size (candidateRetractors s n)
+    -- an un-en-passant for each pawn
+    + size (pawnsOf s)
+    + officerEntries s (kindPlace Knight) + officerEntries s (kindPlace Bishop) + officerEntries s (kindPlace Rook) + officerEntries s (kindPlace Queen)
+    -- two for the king's steps, where a capture is optional and where it is necessary, and one for its un-castling
+    + (2 + flag (castled s n))
