@@ -28,7 +28,7 @@ limit = 16
 abbrev pub Enough : ℕ → Type 0
 Enough n = (b : RetractableBoard) → Shaped (toLaws b) → firstFailing (boardTests b) ≡ 0 → men b (opp (b .turn)) ≤ n → length (listOn b) ≤ 47
 
--- "a turned board": `flip` (board.rs, 306 to 313) turns it and leaves its checkers and pins stale
+-- "a turned board": `flip` (board.rs, 306 to 313) turns it, makes its state unknown, and leaves its checkers and pins stale
 abbrev pub turned : RetractableBoard → RetractableBoard
 turned b = record {
   pieces = b .pieces;

@@ -19,7 +19,7 @@ checkersOf s k = bitAnd (s .checkers) (freeOf s k)
 abbrev pub officerEntries : Scene → ℕ → ℕ
 officerEntries s k = size (menOf s k) + size (checkersOf s k)
 
--- the king is listed with an un-castling
+-- an un-castling passes its tests
 abbrev pub castled : Scene → ℕ → Bool
 castled s n = shortOf s n or longOf s n
 
