@@ -2,21 +2,21 @@
 use mathlib.Core.Path.{_≡_, refl, sym, ap, ap₂, _∙_, subst}
 use mathlib.Core.Logic.{inl, inr, ⊎-elim}
 use mathlib.Core.Bool.{Bool, true, false, not}
-use Prim.Native.Nat.{ℕ, _<_, _≤_}
+use Prim.Native.Nat.{ℕ, _+_, _/_, _%_, _<_, _≤_}
 use native.Mathlib.Nat.{lt-trans, eq-or-lt-of-le}
 use native.Mathlib.Omega.{arith}
 use lib.Dec.{eqb, ltb}
 use lib.Bits.{bitAnd, bitOr}
-use borrow.Author.Tests.{lt-ltb, ltb-true, eqb-true, eqb-false, ne-eqb, not-true}
+use borrow.Author.Tests.{lt-ltb, ltb-true, eqb-true, eqb-false, eq-eqb, ne-eqb, not-true}
 use Rattle.squares.specs.Tests.{_and_, _or_}
 use Rattle.squares.specs.Squares.{has, setOf, allTo, everySquare}
-use Rattle.squares.proofs.Testing.{both, left, right, either, or-left, or-right, or-and, and-false, and-swap, and-group, and-yes, implied, cases, order, bool-ext, agree, agree-eq}
+use Rattle.squares.proofs.Testing.{both, left, right, either, or-left, or-right, or-and, and-true, and-false, and-swap, and-group, and-yes, implied, cases, order, bool-ext, agree, agree-eq}
 use Rattle.squares.proofs.Digits.{has-and}
 use Rattle.squares.proofs.Comprehension.{upTo-cong, has-setOf, or-setOf}
 use Rattle.squares.proofs.Every.{all-at, all-of}
 use Rattle.geometry.specs.Lines.{between, inside, sameRank, sameFile, sameDiagonal, straight, diagonal, aligned, clear, free}
 use Rattle.geometry.specs.Steps.{reaches}
-use Rattle.geometry.proofs.Between.{inside-facts, inside-of}
+use Rattle.geometry.proofs.Between.{Inside, inside-facts, inside-of, Between, between-facts}
 use Rattle.sliding.specs.Seen.{moved, flipped, mirrored, opens, seen}
 use Rattle.sliding.specs.Diagonals.{rising, falling}
 use Rattle.sliding.proofs.Borrowing.{opens-above, opens-free, opens-of}
@@ -26,14 +26,18 @@ use Rattle.sliding.proofs.Diagonals.{onRank, onFile, straight-is, diago
 turnsAt : (ℕ → ℕ) → ℕ → Bool
 turnsAt g k = ltb (g k) 64 and eqb (g (g k)) k
 
--- on a line, what is between two squares is numbered between them, and g turns the order round
+-- what is between two squares of a line is on it
+Straight : (ℕ → ℕ → Bool) → Type 0
+Straight on = (a k j : ℕ) → on a k ≡ true → between a k j ≡ true → on a j ≡ true
+
+-- on a line, the squares numbered between two squares are between them, and g turns the order round
 linedAt : (ℕ → ℕ) → (ℕ → ℕ → Bool) → ℕ → ℕ → ℕ → Bool
-linedAt g on a k j = agree (between a k j) (inside a k j and on a j) and (not (on a j) or agree (ltb (g j) (g k)) (ltb k j))
+linedAt g on a k j = not (on a j) or (agree (between a k j) (inside a k j) and agree (ltb (g j) (g k)) (ltb k j))
 
 lined : (ℕ → ℕ) → (ℕ → ℕ → Bool) → Bool
 lined g on = everySquare (turnsAt g) and everySquare (λ a. on a a and everySquare (λ k. not (on a k) or everySquare (linedAt g on a k)))
 
-module _ (g : ℕ → ℕ) (on : ℕ → ℕ → Bool) (ok : lined g on ≡ true) (occ a : ℕ) (in-board : a < 64) where
+module _ (g : ℕ → ℕ) (on : ℕ → ℕ → Bool) (ok : lined g on ≡ true) (along : Straight on) (occ a : ℕ) (in-board : a < 64) where
   stays : (k : ℕ) → k < 64 → g k < 64
   unfolding lined turnsAt
   stays k h = ltb-true (g k) 64 (left _ _ (all-at 64 (turnsAt g) (left _ _ ok) k h))
@@ -50,12 +54,20 @@ module _ (g : ℕ → ℕ) (on : ℕ → ℕ → Bool) (ok : lined g on ≡ true
   line-at k h e = all-at 64 (linedAt g on a k) (implied (on a k) (all-at 64 (λ x. not (on a x) or everySquare (linedAt g on a x)) (right _ _ at-a) k h) e)
 
   ruled : (k : ℕ) → k < 64 → on a k ≡ true → (j : ℕ) → j < 64 → between a k j ≡ (inside a k j and on a j)
-  unfolding linedAt
-  ruled k h e j l = agree-eq _ _ (left _ _ (line-at k h e j l))
+  unfolding linedAt Straight
+  ruled k h e j l = go (on a j) refl
+    where
+      off : (t : Bool) → on a j ≡ false → between a k j ≡ t → t ≡ false
+      off true q w = sym (along a k j e w) ∙ q
+      off false q w = refl
+
+      go : (t : Bool) → on a j ≡ t → between a k j ≡ (inside a k j and t)
+      go true q = agree-eq _ _ (left _ _ (implied (on a j) (line-at k h e j l) q)) ∙ sym (and-true (inside a k j))
+      go false q = off (between a k j) q refl ∙ sym (and-false (inside a k j))
 
   turns : (k : ℕ) → k < 64 → on a k ≡ true → (j : ℕ) → j < 64 → on a j ≡ true → ltb (g j) (g k) ≡ ltb k j
   unfolding linedAt
-  turns k h e j l f = agree-eq _ _ (implied (on a j) (right _ _ (line-at k h e j l)) f)
+  turns k h e j l f = agree-eq _ _ (right _ _ (implied (on a j) (line-at k h e j l) f))
 
   -- the order of two squares of the line, from that of their images
   down : (k : ℕ) → k < 64 → on a k ≡ true → (j : ℕ) → j < 64 → on a j ≡ true → g j < g k → k < j
@@ -157,15 +169,60 @@ spread p q n c = or-and p q (n and c) ∙ sym (and-group (p or q) n c) ∙ ap (�
 abbrev found : (ℕ → ℕ) → (ℕ → ℕ → Bool) → ℕ → ℕ → ℕ
 found g on occ a = setOf (λ k. has (setOf (on a)) k and seen g a (bitAnd occ (setOf (on a))) k)
 
-two-lines : (on one two : ℕ → ℕ → Bool) (f g : ℕ → ℕ) → lined f one ≡ true → lined g two ≡ true
+two-lines : (on one two : ℕ → ℕ → Bool) (f g : ℕ → ℕ) → lined f one ≡ true → Straight one → lined g two ≡ true → Straight two
     → ((a b : ℕ) → (not (eqb a b) and (one a b or two a b)) ≡ on a b)
     → (occ a : ℕ) → a < 64 → bitOr (found f one occ a) (found g two occ a) ≡ setOf (reaches on (free occ) a)
 unfolding men
-two-lines on one two f g ok₁ ok₂ lines occ a h =
+two-lines on one two f g ok₁ st₁ ok₂ st₂ lines occ a h =
     or-setOf (λ k. has (setOf (one a)) k and seen f a (bitAnd occ (setOf (one a))) k) (λ k. has (setOf (two a)) k and seen g a (bitAnd occ (setOf (two a))) k)
     ∙ upTo-cong 64 _ (reaches on (free occ) a)
-    (λ k l. ap₂ _or_ (line-is f one ok₁ occ a h k l) (line-is g two ok₂ occ a h k l)
+    (λ k l. ap₂ _or_ (line-is f one ok₁ st₁ occ a h k l) (line-is g two ok₂ st₂ occ a h k l)
     ∙ spread (one a k) (two a k) (not (eqb a k)) (clear (free occ) a k) ∙ ap (λ (t : Bool). t and clear (free occ) a k) (lines a k))
+
+-- by which way round three numbers stand
+ordered : {A : Type 0} {x y z : ℕ} → Inside x y z → (x < z → z < y → A) → (y < z → z < x → A) → A
+ordered (inl p) f g = f (p .0) (p .1)
+ordered (inr p) f g = g (p .0) (p .1)
+
+rank-straight : Straight onRank
+unfolding Straight
+rank-straight a k j q e = eq-eqb (j / 8) (a / 8) (go (eqb-true (k / 8) (a / 8) q) (between-facts a k j e))
+  where
+    go : k / 8 ≡ a / 8 → Between a k j → j / 8 ≡ a / 8
+    go w (inl p) = sym (p .here)
+    go w (inr (inl p)) = ordered (p .within) (λ u v. omega arith) (λ u v. omega arith)
+    go w (inr (inr p)) = ordered (p .by-ranks) (λ u v. omega arith) (λ u v. omega arith)
+
+file-straight : Straight onFile
+unfolding Straight
+file-straight a k j q e = eq-eqb (j % 8) (a % 8) (go (eqb-true (k % 8) (a % 8) q) (between-facts a k j e))
+  where
+    go : k % 8 ≡ a % 8 → Between a k j → j % 8 ≡ a % 8
+    go w (inl p) = ordered (p .within) (λ u v. omega arith) (λ u v. omega arith)
+    go w (inr (inl p)) = sym (p .here)
+    go w (inr (inr p)) = ordered (p .by-files) (λ u v. omega arith) (λ u v. omega arith)
+
+rising-straight : Straight rising
+unfolding Straight
+rising-straight a k j q e = eq-eqb (a % 8 + j / 8) (j % 8 + a / 8) (go (eqb-true (a % 8 + k / 8) (k % 8 + a / 8) q) (between-facts a k j e))
+  where
+    go : a % 8 + k / 8 ≡ k % 8 + a / 8 → Between a k j → a % 8 + j / 8 ≡ j % 8 + a / 8
+    go w (inl p) = ordered (p .within) (λ u v. omega arith) (λ u v. omega arith)
+    go w (inr (inl p)) = ordered (p .within) (λ u v. omega arith) (λ u v. omega arith)
+    go w (inr (inr p)) =
+        ordered (p .by-files) (λ u v. ordered (p .by-ranks) (λ x y. omega (arith, p .here)) (λ x y. omega arith))
+        (λ u v. ordered (p .by-ranks) (λ x y. omega arith) (λ x y. omega (arith, p .here)))
+
+falling-straight : Straight falling
+unfolding Straight
+falling-straight a k j q e = eq-eqb (a % 8 + a / 8) (j % 8 + j / 8) (go (eqb-true (a % 8 + a / 8) (k % 8 + k / 8) q) (between-facts a k j e))
+  where
+    go : a % 8 + a / 8 ≡ k % 8 + k / 8 → Between a k j → a % 8 + a / 8 ≡ j % 8 + j / 8
+    go w (inl p) = ordered (p .within) (λ u v. omega arith) (λ u v. omega arith)
+    go w (inr (inl p)) = ordered (p .within) (λ u v. omega arith) (λ u v. omega arith)
+    go w (inr (inr p)) =
+        ordered (p .by-files) (λ u v. ordered (p .by-ranks) (λ x y. omega arith) (λ x y. omega (arith, p .here)))
+        (λ u v. ordered (p .by-ranks) (λ x y. omega (arith, p .here)) (λ x y. omega arith))
 
 rank-lined : lined mirrored onRank ≡ true
 unfolding lined linedAt turnsAt allTo between sameRank sameFile sameDiagonal _and_ _or_
@@ -184,10 +241,10 @@ unfolding lined linedAt turnsAt allTo between sameRank sameFile sameDiagonal _an
 falling-lined = refl
 
 pub rook-is : (occ a : ℕ) → a < 64 → bitOr (found mirrored onRank occ a) (found flipped onFile occ a) ≡ setOf (reaches straight (free occ) a)
-rook-is = two-lines straight onRank onFile mirrored flipped rank-lined file-lined straight-is
+rook-is = two-lines straight onRank onFile mirrored flipped rank-lined rank-straight file-lined file-straight straight-is
 
 pub bishop-is : (occ a : ℕ) → a < 64 → bitOr (found flipped rising occ a) (found flipped falling occ a) ≡ setOf (reaches diagonal (free occ) a)
-bishop-is = two-lines diagonal rising falling flipped flipped rising-lined falling-lined diagonal-is
+bishop-is = two-lines diagonal rising falling flipped flipped rising-lined rising-straight falling-lined falling-straight diagonal-is
 
 pub queen-is : (occ a : ℕ) → bitOr (setOf (reaches straight (free occ) a)) (setOf (reaches diagonal (free occ) a)) ≡ setOf (reaches aligned (free occ) a)
 queen-is occ a =
