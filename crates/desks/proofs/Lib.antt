@@ -1,0 +1,9 @@
+pub mod Room
+pub mod Pasting
+pub mod Standing
+pub mod Calling
+pub mod Leaving
+pub mod Fresh
+pub mod Alone
+pub mod Giving
+pub mod Saying
