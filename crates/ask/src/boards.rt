@@ -10,7 +10,6 @@ use board::PieceOn;
 use board::PieceTold;
 use board::RetractableBoard;
 use laws::Piece;
-use text::Copied;
 use text::Raw;
 ghost use Prim.Native.Nat.{_≤_};
 ghost use lib.ListN.{length};
@@ -69,7 +68,7 @@ fn earlier(raw: Raw) -> Boarded {
 }
 
 // The text of a board, which may fail 6.
-fn put_text(b: RetractableBoard, out: &mut [u8; 65536]) -> usize {
+pub(super) fn put_text(b: RetractableBoard, out: &mut [u8; 65536], len: usize) -> usize {
     let pieces = b.pieces;
     let colors = b.colors;
     let turn = b.turn;
@@ -77,11 +76,8 @@ fn put_text(b: RetractableBoard, out: &mut [u8; 65536]) -> usize {
     let black = b.black;
     let passant = b.passant;
     let l = text::inner::line_of(pieces, colors, turn, white, black, passant);
-    let c = text::inner::copy(l, out);
-    match c {
-        Copied::Count(n) => n,
-        Copied::Room(_) => 0,
-    }
+    let bytes = l.bytes;
+    puts::front(out, len, &bytes, l.len)
 }
 
 pub(super) fn put_boarded(b: Boarded, out: &mut [u8; 65536]) -> usize {
@@ -90,7 +86,7 @@ pub(super) fn put_boarded(b: Boarded, out: &mut [u8; 65536]) -> usize {
         Verdict::Refused(r) => puts::refused(r, out),
         Verdict::Accepted => {
             let board = b.board;
-            put_text(board, out)
+            put_text(board, out, 0)
         }
     }
 }
@@ -158,7 +154,7 @@ pub(super) fn replay(line: &[u8], out: &mut [u8; 65536]) -> usize {
 
 // `raw TAB p n b r q k white black turn rights state`: the sets in hexadecimal, a square as its number
 pub(super) fn raw(line: &[u8], out: &mut [u8; 65536]) -> usize {
-    let b = untested(line);
+    let b = untested(line, fields::after(line, 0, b'\t'));
     let pieces = b.pieces;
     let colors = b.colors;
     let turn = b.turn;
@@ -171,11 +167,10 @@ pub(super) fn raw(line: &[u8], out: &mut [u8; 65536]) -> usize {
     )
 }
 
-// The board of raw fields, with union, checkers and pins behind them, as they stand there.
-pub(super) fn untested(line: &[u8]) -> RetractableBoard {
-    let pieces = fields::after(line, 0, b'\t');
-    let colors = fields::past(line, pieces, 6);
-    let turn = fields::past(line, colors, 2);
+// The board of the raw fields at a place, with union, checkers and pins behind them, as they stand there.
+pub(super) fn untested(line: &[u8], pieces: usize) -> RetractableBoard {
+    let colors = fields::past(line, pieces, b' ', 6);
+    let turn = fields::past(line, colors, b' ', 2);
     let rights = fields::after(line, turn, b' ');
     let state = fields::after(line, rights, b' ');
     let combined = fields::after(line, state, b' ');

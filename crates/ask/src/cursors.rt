@@ -41,7 +41,7 @@ fn read(line: &[u8], at: usize) -> RetractionGen {
     let uncaptured = fields::after(line, index, b' ');
     let masks = fields::after(line, uncaptured, b' ');
     let sets = fields::sets(line, masks);
-    let entries = read_entries(line, fields::past(line, masks, 6));
+    let entries = read_entries(line, fields::past(line, masks, b' ', 6));
     RetractionGen {
         entries,
         len: fields::number(line, at) as usize,

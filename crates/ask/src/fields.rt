@@ -34,12 +34,12 @@ pub(super) fn after(line: &[u8], at: usize, sep: u8) -> usize {
     i
 }
 
-// The place behind the next n spaces, or the line's end.
-pub(super) fn past(line: &[u8], at: usize, n: usize) -> usize {
+// The place behind the next n `sep`s, or the line's end.
+pub(super) fn past(line: &[u8], at: usize, sep: u8, n: usize) -> usize {
     let mut to = at;
     let mut i = 0;
     while i < n {
-        to = after(line, to, b' ');
+        to = after(line, to, sep);
         i += 1;
     }
     to
@@ -62,17 +62,17 @@ pub(super) fn hex(line: &[u8], at: usize) -> u64 {
 
 // Two sets and six, single spaces between.
 pub(super) fn colors(line: &[u8], at: usize) -> [u64; 2] {
-    [hex(line, at), hex(line, past(line, at, 1))]
+    [hex(line, at), hex(line, past(line, at, b' ', 1))]
 }
 
 pub(super) fn sets(line: &[u8], at: usize) -> [u64; 6] {
     [
         hex(line, at),
-        hex(line, past(line, at, 1)),
-        hex(line, past(line, at, 2)),
-        hex(line, past(line, at, 3)),
-        hex(line, past(line, at, 4)),
-        hex(line, past(line, at, 5)),
+        hex(line, past(line, at, b' ', 1)),
+        hex(line, past(line, at, b' ', 2)),
+        hex(line, past(line, at, b' ', 3)),
+        hex(line, past(line, at, b' ', 4)),
+        hex(line, past(line, at, b' ', 5)),
     ]
 }
 

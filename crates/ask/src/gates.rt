@@ -1,6 +1,7 @@
 // `gate TAB raw fields union checkers pins`: by which number each entry refuses a board of these fields, 0 for none. The other arguments are such
 // that an entry which lets the board pass refuses them, where it can: 64 for a square, and slices without room.
 use super::boards;
+use super::fields;
 use super::puts;
 use accept::Refusal;
 use accept::Verdict;
@@ -21,7 +22,7 @@ use strict::LastMove;
 use text::Printed;
 
 pub(super) fn gate(line: &[u8], out: &mut [u8; 65536]) -> usize {
-    let b = boards::untested(line);
+    let b = boards::untested(line, fields::after(line, 0, b'\t'));
     let n = put_methods(b, out);
     let m = put_listings(b, out, n);
     put_strict(b, out, m)

@@ -12,6 +12,7 @@ mod lists; // lists.rt: masks, entries and what is asked of the lists, put
 mod puts; // puts.rt: bytes, numbers and sets put into an answer
 mod questions; // questions.rt: what is asked of a text, and the answer
 mod slices; // slices.rt: the text and the lists into a slice of any size
+mod study; // study.rt: calls of two desks on a study table
 mod verbs; // verbs.rt: which verb a line begins with
 
 fn main() {

@@ -5,6 +5,14 @@ pub(super) fn bytes(out: &mut [u8; 65536], len: usize, text: &[u8]) -> usize {
     feed::put_bytes(out, len, text).used(len)
 }
 
+// The first n bytes of a text, none where it has fewer.
+pub(super) fn front(out: &mut [u8; 65536], len: usize, text: &[u8], n: usize) -> usize {
+    if n > text.len() {
+        return len;
+    }
+    bytes(out, len, &text[..n])
+}
+
 pub(super) fn number(out: &mut [u8; 65536], len: usize, x: u64) -> usize {
     feed::put_decimal(out, len, x).used(len)
 }
@@ -22,6 +30,14 @@ pub(super) fn next_number(out: &mut [u8; 65536], len: usize, x: u64) -> usize {
 pub(super) fn next_set(out: &mut [u8; 65536], len: usize, x: u64) -> usize {
     let a = bytes(out, len, b" ");
     set(out, a, x)
+}
+
+// The i-th of several numbers: a space before all but the first.
+pub(super) fn member(out: &mut [u8; 65536], len: usize, i: usize, x: u64) -> usize {
+    if i == 0 {
+        return number(out, len, x);
+    }
+    next_number(out, len, x)
 }
 
 // Six sets, single spaces between.
@@ -45,6 +61,10 @@ pub(super) fn told(out: &mut [u8; 65536], yes: bool) -> usize {
 
 // `refused N`
 pub(super) fn refused(r: Refusal, out: &mut [u8; 65536]) -> usize {
-    let a = bytes(out, 0, b"refused ");
-    number(out, a, accept::number(r) as u64)
+    refused_by(out, 0, accept::number(r))
+}
+
+pub(super) fn refused_by(out: &mut [u8; 65536], len: usize, n: u8) -> usize {
+    let a = bytes(out, len, b"refused ");
+    number(out, a, n as u64)
 }

@@ -92,16 +92,8 @@ fn put_slots(slots: &[u16], out: &mut [u8; 65536], len: usize) -> usize {
     let mut n = puts::bytes(out, len, b" [");
     let mut i = 0;
     while i < slots.len() {
-        n = put_slot(out, n, i, slots[i]);
+        n = puts::member(out, n, i, slots[i] as u64);
         i += 1;
     }
     puts::bytes(out, n, b"]")
-}
-
-// A space before all but the first.
-fn put_slot(out: &mut [u8; 65536], len: usize, i: usize, slot: u16) -> usize {
-    if i == 0 {
-        return puts::number(out, len, slot as u64);
-    }
-    puts::next_number(out, len, slot as u64)
 }

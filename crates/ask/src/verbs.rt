@@ -6,6 +6,7 @@ use super::gates;
 use super::puts;
 use super::questions;
 use super::slices;
+use super::study;
 ghost use Prim.Native.Nat.{_≤_};
 ghost use lib.ListN.{length};
 
@@ -43,6 +44,9 @@ fn by_verb(line: &[u8], out: &mut [u8; 65536]) -> usize {
     }
     if fields::starts(line, b"strictinto\t") {
         return slices::list(true, line, out);
+    }
+    if fields::starts(line, b"desks\t") {
+        return study::run(line, out);
     }
     questions::answer(line, out)
 }

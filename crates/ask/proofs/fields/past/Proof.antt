@@ -5,10 +5,10 @@ use Rattle.ask.proofs.fields.past.Statement.{statement}
 use Rattle.ask.proofs.fields.past.Tie as tie
 
 abbrev Inv-loop : tie.InvT-loop
-Inv-loop line at n to₀ i₀ to i = Unit {0}
+Inv-loop line at sep n to₀ i₀ to i = Unit {0}
 
 abbrev μ-loop : tie.MeasureT-loop
-μ-loop line at n to₀ i₀ to i = n - i
+μ-loop line at sep n to₀ i₀ to i = n - i
 
 loop-holds : tie.Need-loop-holds Inv-loop μ-loop
 loop-holds c = tt

@@ -21,14 +21,17 @@ bytes-requires c κs = search needs
 loop-holds : tie.Need-loop-holds Inv-loop μ-loop
 loop-holds c = tt
 
-mul-put-slot : tie.Need-mul-put-slot Inv-loop μ-loop
-mul-put-slot c = omega arith
+mul-member : tie.Need-mul-member Inv-loop μ-loop
+mul-member c = omega arith
 
-shared-slice-read-put-slot : tie.Need-shared-slice-read-put-slot Inv-loop μ-loop
-shared-slice-read-put-slot c = omega arith
+shared-slice-read-member : tie.Need-shared-slice-read-member Inv-loop μ-loop
+shared-slice-read-member c = omega arith
 
-put-slot-requires : tie.Need-put-slot-requires Inv-loop μ-loop
-put-slot-requires c κs = search needs
+cast-member : tie.Need-cast-member Inv-loop μ-loop
+cast-member c = omega (arith, c .shared-slice-known2 .given (c .before .before .before .loop .i))
+
+member-requires : tie.Need-member-requires Inv-loop μ-loop
+member-requires c κs = search needs
 
 add-i : tie.Need-add-i Inv-loop μ-loop
 add-i c = omega arith
@@ -57,9 +60,10 @@ put-slots-spec =
     slice-aggregate-bytes
     bytes-requires
     loop-holds
-    mul-put-slot
-    shared-slice-read-put-slot
-    put-slot-requires
+    mul-member
+    shared-slice-read-member
+    cast-member
+    member-requires
     add-i
     loop-less
     loop-again
