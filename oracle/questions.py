@@ -1,6 +1,7 @@
 """What `compare` asks: of generated boards, lines for each verb of `ask`, and the presses of `step`. The oracle has to be built before this is
 imported."""
 import itertools
+import table
 from programs import BRUTE, PORTED, ask, load
 
 gen = load('gen')
@@ -192,6 +193,170 @@ def bent_worked(rng, worked):
     return b'%x %x %x' % tuple(sets)
 
 
+GOOD = [b'4k3/8/8/8/3pP3/8/8/4K3 b - e4', b'4k3/8/8/3pP3/8/8/8/4K3 w - d5', b'r3k2r/8/8/8/8/8/8/R3K2R w KQkq -', b'r3k2r/8/8/8/8/8/8/R3K2R b Kq ?',
+        b'8/4k3/3P4/8/8/8/8/4R2K b - -', b'4k3/8/8/8/4n3/8/8/4RK2 b - ?', b'4k3/4r3/8/8/4B3/8/8/4K3 w - -', b'8/8/8/8/8/3n4/8/4K2k w - ?']
+LOW = [b'8/8/8/8/8/8/8/K1k5 w - ?', b'8/8/8/8/8/8/8/K1k4R b - -', b'8/8/8/8/8/8/1P6/K2k3R b - -', b'8/8/8/8/8/8/r6R/K2k4 w - ?', b'8/8/8/8/8/8/8/R3K1k1 w Q -']
+LARGE = [2 ** 8, 2 ** 32, 2 ** 60, 2 ** 63, table.HUGE]
+
+
+def desks(rng, boards):
+    """A line a board: what two desks and a stranger do with boards of any kind, among them always some that are accepted."""
+    texts = [b.text for b in boards if len(b.text) < 90 and b.text[:1] != b'=']
+    raw = [b'=' + fields for fields in gate(rng, boards)]
+    known = table.read(lambda mode, lines: ask([BRUTE, mode], lines), set(texts + raw + GOOD + LOW))
+    return [Study(rng, known, few(rng, [texts, texts, raw, GOOD, texts, raw, GOOD])).line() for _ in boards]
+
+
+def few(rng, heaps):
+    """A board of each heap, the heaps in any order, as long as half of a line has room for them."""
+    chosen = [rng.choice(heap) for heap in rng.sample(heaps, len(heaps)) if heap]
+    return [b for b, length in zip(chosen, itertools.accumulate(len(b) + 1 for b in chosen)) if length <= 210] or [rng.choice(GOOD)]
+
+
+class Study:
+    """The calls of one line, made here too, so that it is known what the desks hold."""
+    def __init__(self, rng, known, boards):
+        self.rng, self.known, self.boards = rng, known, boards
+        self.size, self.calls = table_size(rng), []
+        self.question = table.Question(self.fields())
+        self.words, self.room = self.question.table.words, 513 - len(b'desks\t' + self.fields())  # no space behind the last call
+
+    def fields(self):
+        return b'\t'.join([b'%d' % self.size, b' '.join(self.calls)] + self.boards)
+
+    def line(self):
+        opening = self.rng.choices([[], [self.set_up], [self.quota, self.quota], [self.any, self.any, self.any, self.set_up]], [5, 75, 10, 10])[0]
+        for step in opening:
+            step()
+        while len(self.calls) < 45 and self.room > 0:
+            self.any()
+        return self.fields()
+
+    def any(self):
+        """A step; the table is set up again soon where nobody has a place, most often after a quota that is too large."""
+        steps = [self.put, self.fill, self.fetch, self.drop, self.stranger, self.quota, self.set_up, self.unknown]
+        lost = len(self.words) > 17 and not self.starts(0) and not self.starts(1)
+        self.rng.choices(steps, [24, 3, 24, 15, 6, 1, 40 if lost else 1, 1])[0]()
+
+    def make(self, letter, a, b):
+        call = b'%s%d,%d' % (letter, a, b)
+        self.room -= len(call) + 1
+        if self.room >= 0:
+            self.calls.append(call)
+            try:
+                self.question.call(self.known, letter, min(a, table.HUGE), min(b, table.HUGE))
+            except table.Refused:
+                pass
+
+    def desk(self, wanted=lambda word: True):
+        """Rather one with a place whose mark is wanted."""
+        having = [desk for desk in (0, 1) if any(wanted(self.words[start]) for start in self.starts(desk))]
+        if having and self.rng.random() < .85:
+            return self.rng.choice(having)
+        return self.rng.choices([0, 1, 2, 3, 255, 256, 300, table.HUGE], [20, 20, 1, 1, 1, 1, 1, 1])[0]
+
+    def starts(self, desk):
+        """Where the desk's places begin, none where its calls are refused."""
+        try:
+            return self.question.table.starts(desk)
+        except table.Refused:
+            return []
+
+    def number(self, desk):
+        """Mostly one that the desk holds, else one about its quota, or a large one."""
+        starts = self.starts(desk)
+        held = [n for n, start in enumerate(starts) if self.words[start]]
+        if held and self.rng.random() < .8:
+            return self.rng.choice(held)
+        return self.rng.choice([self.rng.randrange(len(starts) + 2), len(starts), self.rng.choice(LARGE)])
+
+    def put(self):
+        board = self.rng.choice([0, len(self.boards) + 1, table.HUGE]) if self.rng.random() < .1 else self.rng.randrange(len(self.boards)) + 1
+        self.make(b'p', self.desk(lambda mark: mark == 0), board)
+
+    def fill(self):
+        """More than a desk may hold, where that is not many."""
+        desk, good = self.desk(), [i for i, b in enumerate(self.boards, 1) if self.known[b][0] == 0]
+        for _ in range(min(8, 1 + sum(self.words[start] == 0 for start in self.starts(desk)))):
+            self.make(b'p', desk, self.rng.choice(good or [1]))
+
+    def fetch(self):
+        desk = self.desk(bool)
+        self.make(b'f', desk, self.number(desk))
+
+    def drop(self):
+        desk = self.desk(bool)
+        self.make(b'd', desk, self.number(desk))
+
+    def unknown(self):
+        self.make(self.rng.choice([b'x', b'S', b'P', b'q']), self.rng.randrange(3), self.rng.randrange(3))
+
+    def set_up(self):
+        """Quotas that fit, all places or a few; or those that do not, some of which would if their sum wrapped."""
+        places = max(0, len(self.words) - 2) // 16
+        if self.rng.random() < .15:
+            large = [(h, n) for h in (2 ** 60, table.HUGE, 2 ** 64) for n in (0, 1, places + 1, h)] + [(2 ** 63, 2 ** 63)]
+            quotas = self.rng.choice([(places, 1), (places + 1, 0), self.rng.choice(large)])
+            return self.make(b's', *self.rng.sample(quotas, 2))
+        both = self.rng.choice([places, places, min(places, self.rng.randrange(9)), self.rng.randrange(places + 1)])
+        first = self.rng.randrange(both + 1)
+        self.make(b's', first, both - first)
+
+    def quota(self):
+        self.make(b'w', self.rng.randrange(2), self.rng.choice([0, 1, 2, 3, max(0, len(self.words) - 2) // 16, self.rng.choice(LARGE)]))
+
+    def stranger(self):
+        """Changes by hand a place, most often one in use, and fetches from it; or writes any word."""
+        places = [(desk, n, start) for desk in (0, 1) for n, start in enumerate(self.starts(desk))]
+        used = [p for p in places if self.words[p[2]]]
+        if not places or self.rng.random() < .05:
+            return self.make(b'w', self.rng.choice([0, 1, 2, self.rng.randrange(self.size + 2), table.HUGE]), self.rng.choice([0, 1] + LARGE))
+        desk, number, start = self.rng.choice(used if used and self.rng.random() < .9 else places)
+        here = self.words[start:start + 16]
+        there = [1] + self.known[self.rng.choice(LOW)][1] if self.rng.random() < .1 else bent_place(self.rng, here)
+        for i in range(16):
+            if here[i] != there[i]:
+                self.make(b'w', start + i, there[i])
+        self.make(b'f', desk, number)
+
+
+def table_size(rng):
+    odd = rng.choice([0, 1, 2, 3, 17, 18, 33, 34, 1023, 1024, 1025, table.HUGE, rng.randrange(1025)])
+    return odd if rng.random() < .15 else 2 + 16 * rng.randrange(2, 9) + rng.choice([0, 0, 1, 15])
+
+
+def bent_place(rng, words):
+    """The words of a place with one of them changed, or a king that comes or goes, or a pawn on the first or the last rank."""
+    words, way = list(words), rng.randrange(10)
+    if way == 0:
+        words[0] = rng.choice([0, 2] + LARGE)
+    elif way == 1:
+        words[10] = rng.choice([0, 1, 2] + LARGE)
+    elif way == 2:
+        words[10] = 0 if words[10] else 1
+    elif way == 3:
+        words[rng.choice([11, 12])] = rng.choice([0, 1, 2, 3, 4] + LARGE)
+    elif way < 6:
+        words[15] = rng.choice([0, 1, rng.randrange(26, 42), rng.randrange(2, 66), 66, 255, 256, 257, 258, words[15] + 256] + LARGE)
+    elif way == 6:
+        words[rng.randrange(1, 9)] ^= 1 << rng.randrange(64)
+    elif way == 7:
+        words[rng.choice([9, 13, 14])] ^= 1 << rng.randrange(64)
+    else:
+        kind = rng.choice([1, 6])
+        squares = [s for s in range(64) if words[6] >> s & 1] if kind == 6 else [s for s in range(64) if s // 8 in (0, 7) and not words[9] >> s & 1]
+        square = rng.choice(squares or [rng.randrange(64)])
+        for i in (kind, 8 if words[8] >> square & 1 else 7, 9):
+            words[i] ^= 1 << square
+    return [min(w, table.HUGE) for w in words]
+
+
+def calls(line, answer):
+    """The calls of a line to `desks`, each by its letter and what it was answered, with no numbers and no boards in it."""
+    said = ['a number' if a.isdigit() else 'a board' if b'/' in a else a.decode() for a in answer.split(b'\t')]
+    return [c[:1].decode() + ' ' + a for c, a in zip(line.split(b'\t')[2].split(b' '), said)]
+
+
 def into(length):
     """Each board into a slice that has just the room, too little or more; a line of `ask` has 512 bytes."""
     def lines(rng, boards):
@@ -211,8 +376,8 @@ def sitting(rng, s):
 
 
 NO_VERBS = [b'', b'moves\t', b'\t', b'lists\t', b'raw ', b'piece', b'Count\t', b' strict\t', b'limite\t', b'cursor', b'gate,', b'unmak\xc3\t',
-            b'press', b'presse\t']
-FIELDS = {'raw': raw, 'piece': piece, 'attacked': attacked, 'setep': setep, 'cursor': cursor, 'press': cursor, 'gate': gate,
+            b'press', b'presse\t', b'desks', b'desk\t']
+FIELDS = {'raw': raw, 'piece': piece, 'attacked': attacked, 'setep': setep, 'cursor': cursor, 'press': cursor, 'gate': gate, 'desks': desks,
           'print': into(lambda b: len(b.text)), 'listinto': into(lambda b: len(b.listed)), 'strictinto': into(lambda b: len(b.strict))}
 
 
