@@ -1,6 +1,2 @@
-pub mod Chained
-pub mod Lengths
-pub mod Worded
-pub mod Drawn
 pub mod Screened
 pub mod Whole

@@ -2,16 +2,15 @@
 use mathlib.Core.Path.{_≡_}
 use mathlib.Core.Bool.{Bool, cond}
 use mathlib.Core.List.{List, [], _∷_, _++_}
-use Prim.Native.Nat.{ℕ, zero, suc, _+_, _/_, min}
+use Prim.Native.Nat.{ℕ, zero, suc, _+_, min}
 use lib.Dec.{eqb}
 use lib.ListN.{length, take}
 use Rattle.geometry.specs.Colors.{opp}
 use Rattle.laws.specs.declared.ChessRetraction.{ChessRetraction}
 use Rattle.laws.specs.Retractions.{packed}
-use Rattle.laws.specs.Men.{manNumber}
 use Rattle.accept.specs.Said.{firstFailing}
 use Rattle.board.specs.declared.RetractableBoard.{RetractableBoard}
-use Rattle.board.specs.Gate.{menOn, posOn, boardTests}
+use Rattle.board.specs.Gate.{posOn, boardTests}
 use Rattle.board.specs.Moving.{unmakeTests, unmadeOn}
 use Rattle.text.specs.Entries.{textOn}
 use Rattle.retraction_gen.specs.declared.RetractionGen.{RetractionGen}
@@ -20,16 +19,11 @@ use Rattle.retraction_gen.specs.declared.Next.the-variants.{Retraction, End}
 use Rattle.retraction_gen.specs.declared.Stepped.{Stepped}
 use Rattle.retraction_gen.specs.Cursors.{Steps}
 use Rattle.report.specs.Report.{decimalOf, isIn}
+use Rattle.drawing.specs.Words.{bytes, sideName, sourceKind, wordsOf}
+use Rattle.drawing.specs.Diagrams.{drawingOf, diagramOf}
 use Rattle.answer.specs.Replies.{newline, refusedText, Shows}
-use Rattle.screen.specs.declared.Drawing.{Drawing}
 use Rattle.screen.specs.declared.Screen.{Screen}
 use Rattle.screen.specs.declared.Pressed.{Pressed}
-use Rattle.screen.specs.Words.{bytes, sideName, wordsOf}
-use Rattle.screen.specs.Diagrams.{diagramOf}
-
--- a board with the squares of a move marked; 64 marks none
-abbrev pub drawingOf : RetractableBoard → ℕ → ℕ → Drawing
-drawingOf b from to = record { pieces = b .pieces; colors = b .colors; from = from; to = to }
 
 -- the text of a board, its diagram and what to do
 abbrev pub openingOf : RetractableBoard → List ℕ
@@ -43,10 +37,6 @@ openingText b = cond (eqb (firstFailing (boardTests b)) 0) (openingOf b) (refuse
 -- the board before a retraction; today's where un-make refuses it
 abbrev pub boardBefore : RetractableBoard → ChessRetraction → RetractableBoard
 boardBefore b r = cond (eqb (firstFailing (boardTests b ++ unmakeTests (posOn b) r)) 0) (unmadeOn b r) b
-
--- the number of the kind on the source today
-abbrev pub sourceKind : RetractableBoard → ChessRetraction → ℕ
-sourceKind b r = manNumber (menOn b (r .source)) / 2
 
 -- the n-th retraction in words, and on the board before it
 unfoldable pub retractionText : RetractableBoard → ℕ → ChessRetraction → Bool → List ℕ

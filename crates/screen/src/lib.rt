@@ -1,6 +1,8 @@
 // The stepping screen: a board, and one of its last moves for each press.
 use accept::Verdict;
 use board::RetractableBoard;
+use drawing::inner::diagram;
+use drawing::inner::words;
 use laws::ChessRetraction;
 use retraction_gen::Next;
 use retraction_gen::RetractionGen;
@@ -11,17 +13,6 @@ ghost use Rattle.laws.specs.Retractions.{InRange};
 ghost use Rattle.retraction_gen.specs.declared.Next.the-variants.{Retraction, End};
 ghost use Rattle.answer.specs.Replies.{Shows};
 ghost use Rattle.screen.specs.Screens.{openingText, boardBefore, retractionText, endText, oneMore, Shown, ShownBy};
-
-mod diagram; // diagram.rt: a board as a diagram in text
-mod words; // words.rt: a retraction in words
-
-// The men of a board, and the squares that a man came from and went to; 64 marks none.
-pub struct Drawing {
-    pub pieces: [u64; 6],
-    pub colors: [u64; 2],
-    pub from: u8,
-    pub to: u8,
-}
 
 // The record of the stepping screen: the board, its cursor, and how many retractions were shown, all and strict ones.
 pub struct Screen {

@@ -1,10 +1,10 @@
 -- `screen::opening` meets its contract.
 use native.Mathlib.Omega.{arith}
 use borrow.Author.Needs.{needs}
-use Rattle.screen.specs.Words.{bytesIn}
+use Rattle.drawing.specs.Words.{bytesIn}
 use Rattle.text.proofs.Printing.{printing-tells}
 use Rattle.answer.proofs.Shown.{text-short, never-room}
-use Rattle.screen.proofs.Chained.{ends}
+use Rattle.drawing.proofs.Chained.{ends}
 use Rattle.screen.proofs.Screened.{opening-shown, refusal-shown}
 use Rattle.screen.proofs.opening.Statement.{statement}
 use Rattle.screen.proofs.opening.Tie as tie

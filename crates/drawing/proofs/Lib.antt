@@ -1,0 +1,4 @@
+pub mod Chained
+pub mod Lengths
+pub mod Worded
+pub mod Drawn

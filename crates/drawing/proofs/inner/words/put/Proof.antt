@@ -1,0 +1,20 @@
+-- `drawing::inner::words::put` meets its contract.
+use borrow.Author.Needs.{needs}
+use Rattle.feed.proofs.Added.{used-adds}
+use Rattle.drawing.proofs.inner.words.put.Statement.{statement}
+use Rattle.drawing.proofs.inner.words.put.Tie as tie
+
+put-bytes-requires : tie.Need-put-bytes-requires
+put-bytes-requires c κs = search needs
+
+used-requires : tie.Need-used-requires
+used-requires c κs = search needs
+
+same-length : tie.Need-same-length
+same-length c = search needs
+
+returns : tie.Need-returns
+returns c = used-adds _ _ _ _ _ (c .before .before .before .put-bytes .ensures) _ (c .used .ensures)
+
+pub put-spec : {M : Type 1} → statement M
+put-spec = tie.close (tie.spec put-bytes-requires used-requires same-length returns)
