@@ -2,31 +2,28 @@
 use mathlib.Core.Path.{_≡_, refl, sym, ap, ap₂, _∙_}
 use mathlib.Core.Bool.{Bool, true, false, not}
 use mathlib.Core.List.{List}
-use Prim.Native.Nat.{ℕ, _+_, _<_, _≤_}
-use native.Mathlib.Omega.{arith}
+use Prim.Native.Nat.{ℕ, _<_, _≤_}
 use lib.Dec.{eqb}
-use lib.Bits.{bitAnd, bitOr}
-use borrow.Author.Tests.{eqb-true, eq-eqb, ne-eqb, lt-ltb, le-ltb}
+use lib.Bits.{bitAnd}
+use borrow.Author.Tests.{eq-eqb, ne-eqb, lt-ltb, le-ltb}
 use Rattle.squares.specs.Tests.{_and_, _or_}
-use Rattle.squares.specs.Squares.{rank, has, setOf, only, upTo, allTo, everySquare, leftOfOne, rightOfOne}
+use Rattle.squares.specs.Squares.{rank, has, everySquare}
 use Rattle.geometry.specs.declared.Color.{Color}
 use Rattle.geometry.specs.declared.Color.the-variants.{White, Black}
 use Rattle.geometry.specs.Colors.{opp, rankFor, behind}
-use Rattle.geometry.specs.Lines.{files}
 use Rattle.laws.specs.declared.Piece.the-variants.{Pawn}
 use Rattle.laws.specs.declared.EnPassantFlag.the-variants.{Some}
 use Rattle.laws.specs.Men.{man, Men, isEmpty, isPawn, sameMan}
-use Rattle.laws.specs.Positions.{Rights, short, long}
-use Rattle.laws.specs.Acceptance.{edge, pawnsOk, rightsOk, stateOk, beside}
+use Rattle.laws.specs.Positions.{Rights}
+use Rattle.laws.specs.declared.Side.the-variants.{Short as short, Long as long}
+use Rattle.laws.specs.Acceptance.{edge, pawnsOk, rightOk, rightsOk, stateOk, beside}
 use Rattle.laws.specs.Boards.{kindSet, menAt, Clean}
-use Rattle.men.specs.Standing.{menOf}
-use Rattle.accept.specs.Parts.{rightFor, nextTo, besideOf, steppedTwice}
+use Rattle.men.specs.inner.Standing.{besideOf}
+use Rattle.accept.specs.inner.Parts.{steppedTwice}
 use Rattle.squares.proofs.Testing.{agree, agree-eq}
-use Rattle.squares.proofs.Comprehension.{has-setOf, or-setOf}
-use Rattle.squares.proofs.Every.{meet-test, all-at, all-cong, any-cong, not-all, square-eq}
+use Rattle.squares.proofs.Every.{meet-test, all-cong, square-eq}
 use Rattle.laws.proofs.Cases.{by-cases}
 use Rattle.laws.proofs.ManSets.{has-kind, kind-lt}
-use Rattle.men.proofs.Having.{has-menOf, menOf-lt}
 
 pub not-both : (a b : Bool) → (not a or not b) ≡ not (a and b)
 unfolding _and_ _or_
@@ -47,36 +44,10 @@ pawns-is pieces colors ok mask e =
 
 -- 4
 pub rights-is : (m : Men) (ρ : Rights)
-    → (not (rightFor m (ρ White short) White 7) or not (rightFor m (ρ White long) White 0) or not (rightFor m (ρ Black short) Black 7) or not (rightFor m (ρ Black long) Black 0))
-    ≡ not (rightsOk m ρ)
-unfolding rightFor
-rights-is m ρ = not-four (rightFor m (ρ White short) White 7) (rightFor m (ρ White long) White 0) (rightFor m (ρ Black short) Black 7) (rightFor m (ρ Black long) Black 0)
+    → (not (rightOk m ρ White short) or not (rightOk m ρ White long) or not (rightOk m ρ Black short) or not (rightOk m ρ Black long)) ≡ not (rightsOk m ρ)
+rights-is m ρ = not-four (rightOk m ρ White short) (rightOk m ρ White long) (rightOk m ρ Black short) (rightOk m ρ Black long)
 
--- 5
-pub behind-in : (c : Color) (q : ℕ) → q < 64 → 0 < rankFor c q → (behind c q < 64) × (rankFor c (behind c q) + 1 ≡ rankFor c q)
-behind-in White q h r = (omega arith, omega arith)
-behind-in Black q h r = (omega arith, omega arith)
-
-neighbours : ℕ → ℕ
-neighbours q = setOf (λ k. leftOfOne (only q) k or rightOfOne (only q) k)
-
-pub next-is : (q : ℕ) → q < 64 → bitOr (setOf (leftOfOne (only q))) (setOf (rightOfOne (only q))) ≡ setOf (nextTo q)
-unfolding neighbours allTo upTo has nextTo _and_ _or_
-next-is q h = or-setOf (leftOfOne (only q)) (rightOfOne (only q)) ∙ eqb-true (neighbours q) (setOf (nextTo q)) (all-at 64 (λ j. eqb (neighbours j) (setOf (nextTo j))) refl q h)
-
-group : (a b d : Bool) → (a and (b and d)) ≡ (a and b and d)
-unfolding _and_
-group true b d = refl
-group false b d = refl
-
-pub beside-is : (m : Men) (c : Color) (q : ℕ) → not (eqb (bitAnd (menOf m c Pawn) (setOf (nextTo q))) 0) ≡ besideOf m c q
-unfolding besideOf nextTo
-beside-is m c q =
-    ap not (meet-test 64 (menOf m c Pawn) (setOf (nextTo q)) (menOf-lt m c Pawn)) ∙ not-all 64 (λ k. has (menOf m c Pawn) k and has (setOf (nextTo q)) k)
-    ∙ any-cong 64 (λ k. has (menOf m c Pawn) k and has (setOf (nextTo q)) k) (λ k. sameMan (m k) (man c Pawn) and eqb (rank k) (rank q) and eqb (files k q) 1)
-    (λ k l. ap₂ _and_ (has-menOf m c Pawn k l) (has-setOf (nextTo q) k l) ∙ group (sameMan (m k) (man c Pawn)) (eqb (rank k) (rank q)) (eqb (files k q) 1))
-
--- the rank is the fourth, or it is not
+-- 5: the rank is the fourth, or it is not
 stepped-law : (p e f r : Bool) → r ≡ true → ((p and e) and f) ≡ (p and r and e and f)
 unfolding _and_
 stepped-law p e f r h =

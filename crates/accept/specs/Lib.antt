@@ -1,3 +1,2 @@
 pub mod Verdicts
-pub mod Parts
-pub mod Said
+pub mod inner

@@ -1,19 +1,16 @@
 // Refusals 1 to 6 in order.
-use super::Refusal;
-use super::Verdict;
-use laws::CastleRights;
-use laws::Color;
-use laws::EnPassantFlag;
+use laws::Position;
+use refusal::Refusal;
+use refusal::Verdict;
 ghost use mathlib.Core.Path.{_≡_};
-ghost use Rattle.laws.specs.Positions.{rightsOf};
-ghost use Rattle.laws.specs.Boards.{menAt, Clean};
-ghost use Rattle.accept.specs.Verdicts.{firstOf, thirdOf, fiveOf, judgedOf};
+ghost use Rattle.laws.specs.Boards.{Clean};
+ghost use Rattle.accept.specs.Verdicts.{firstRefused, thirdOf, fiveOf, judgedOf};
 
-pub mod tests; // tests.rt: refusals 2 to 5 one by one
+pub mod refusals; // refusals.rt: 2 to 5 one by one
 
 // The first of 3 to 5 that fails.
 fn first(pawns: bool, rights: bool, passant: bool) -> Verdict
-    ensures { λ v. ⌜ v ≡ firstOf pawns rights passant ⌝ }
+    ensures { λ v. ⌜ v ≡ firstRefused pawns rights passant ⌝ }
 {
     if pawns {
         return Verdict::Refused(Refusal::Pawn);
@@ -28,58 +25,42 @@ fn first(pawns: bool, rights: bool, passant: bool) -> Verdict
 }
 
 // Refusals 3 to 5.
-fn third(
-    pieces: [u64; 6],
-    colors: [u64; 2],
-    turn: Color,
-    white: CastleRights,
-    black: CastleRights,
-    passant: EnPassantFlag,
-) -> Verdict
-    requires { ⌜ Clean pieces colors ⌝ }
-    ensures { λ v. ⌜ v ≡ thirdOf (menAt pieces colors) turn (rightsOf white black) passant ⌝ }
+fn third(p: Position) -> Verdict
+    requires { ⌜ Clean (p .pieces) (p .colors) ⌝ }
+    ensures { λ v. ⌜ v ≡ thirdOf p ⌝ }
 {
-    let pawns = tests::bad_pawns(pieces, colors);
-    let rights = tests::bad_rights(pieces, colors, white, black);
-    let state = tests::bad_passant(pieces, colors, turn, passant);
+    let pawns = refusals::bad_pawns(p);
+    let rights = refusals::bad_rights(p);
+    let state = refusals::bad_passant(p);
     first(pawns, rights, state)
 }
 
 // Refusals 1 to 5: what replay asks of a board beside 7.
-pub fn five(
-    pieces: [u64; 6],
-    colors: [u64; 2],
-    turn: Color,
-    white: CastleRights,
-    black: CastleRights,
-    passant: EnPassantFlag,
-) -> Verdict
-    ensures { λ v. ⌜ v ≡ fiveOf pieces colors turn (rightsOf white black) passant ⌝ }
+pub fn five(p: Position) -> Verdict
+    ensures { λ v. ⌜ v ≡ fiveOf p ⌝ }
 {
+    let pieces = p.pieces;
+    let colors = p.colors;
     if men::inner::bad_men(pieces, colors) {
         return Verdict::Refused(Refusal::Men);
     }
-    if tests::bad_kings(pieces, colors) {
+    if refusals::bad_kings(p) {
         return Verdict::Refused(Refusal::Kings);
     }
-    third(pieces, colors, turn, white, black, passant)
+    third(p)
 }
 
 // Refusals 1 to 6: how raw men come in.
-pub fn judge(
-    pieces: [u64; 6],
-    colors: [u64; 2],
-    turn: Color,
-    white: CastleRights,
-    black: CastleRights,
-    passant: EnPassantFlag,
-) -> Verdict
-    ensures { λ v. ⌜ v ≡ judgedOf pieces colors turn (rightsOf white black) passant ⌝ }
+pub fn judge(p: Position) -> Verdict
+    ensures { λ v. ⌜ v ≡ judgedOf p ⌝ }
 {
-    let v = five(pieces, colors, turn, white, black, passant);
+    let v = five(p);
     match v {
         Verdict::Refused(r) => Verdict::Refused(r),
         Verdict::Accepted => {
+            let pieces = p.pieces;
+            let colors = p.colors;
+            let turn = p.turn;
             if pins::inner::bad_check(pieces, colors, turn) {
                 return Verdict::Refused(Refusal::Check);
             }

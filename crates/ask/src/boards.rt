@@ -1,8 +1,6 @@
 // Boards read from a line, what is put of them into an answer, replay and raw men.
 use super::fields;
 use super::puts;
-use accept::Refusal;
-use accept::Verdict;
 use board::AttackTold;
 use board::Attacked;
 use board::Boarded;
@@ -10,72 +8,49 @@ use board::PieceOn;
 use board::PieceTold;
 use board::RetractableBoard;
 use laws::Piece;
+use refusal::Refusal;
+use refusal::Verdict;
+use text::Form;
 use text::Raw;
-ghost use Prim.Native.Nat.{_≤_};
-ghost use lib.ListN.{length};
 
-// The place of the next tab, or the line's end.
-fn stop(line: &[u8], at: usize) -> usize
-    requires { ⌜ at ≤ length (now line) ⌝ }
-    ensures { λ r. ⌜ (at ≤ r) × (r ≤ length (now (line .entry))) ⌝ }
-{
-    let mut i = at;
-    while i < line.len() {
-        if line[i] == b'\t' {
-            return i;
-        }
-        i += 1;
+// The text at a place, up to the next tab or the line's end; empty past that.
+fn text_at(line: &[u8], at: usize) -> &[u8] {
+    let end = fields::stop(line, at, b'\t');
+    if at <= line.len() {
+        &line[at..end]
+    } else {
+        &line[..0]
     }
-    i
 }
 
 // The board of the text at a place.
 pub(super) fn read(line: &[u8], at: usize) -> Boarded {
-    if at > line.len() {
-        return board::inner::board_by(Verdict::Refused(Refusal::Text), board::no_board());
-    }
-    let end = stop(line, at);
-    text::read(&line[at..end])
+    text::read(text_at(line, at))
 }
 
 // The same by refusals 14 and 1 to 5 alone.
 fn read_earlier(line: &[u8], at: usize) -> Boarded {
-    if at > line.len() {
-        return board::inner::board_by(Verdict::Refused(Refusal::Text), board::no_board());
-    }
-    let end = stop(line, at);
-    earlier(text::inner::read_raw(&line[at..end]))
+    earlier(text::inner::read_raw(text_at(line, at)))
 }
 
 fn earlier(raw: Raw) -> Boarded {
-    let form = raw.verdict;
+    let form = raw.form;
     match form {
-        text::Verdict::OutOfForm => board::inner::board_by(
+        Form::OutOfForm => board::inner::board_by(
             Verdict::Refused(Refusal::Text),
             board::no_board(),
         ),
-        text::Verdict::InForm => {
-            let pieces = raw.pieces;
-            let colors = raw.colors;
-            let turn = raw.turn;
-            let white = raw.white;
-            let black = raw.black;
-            let passant = raw.passant;
+        Form::InForm => {
+            let p = raw.position;
             let t = tables::between_table();
-            board::inner::earlier_from(&t, pieces, colors, turn, white, black, passant)
+            board::inner::earlier_from(&t, p)
         }
     }
 }
 
 // The text of a board, which may fail 6.
 pub(super) fn put_text(b: RetractableBoard, out: &mut [u8; 65536], len: usize) -> usize {
-    let pieces = b.pieces;
-    let colors = b.colors;
-    let turn = b.turn;
-    let white = b.white;
-    let black = b.black;
-    let passant = b.passant;
-    let l = text::inner::line_of(pieces, colors, turn, white, black, passant);
+    let l = text::inner::line_of(board::inner::position_of(b));
     let bytes = l.bytes;
     puts::front(out, len, &bytes, l.len)
 }

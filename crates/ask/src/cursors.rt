@@ -2,14 +2,14 @@
 use super::fields;
 use super::lists;
 use super::puts;
-use accept::Verdict;
 use laws::ChessRetraction;
+use refusal::Verdict;
 use retraction_gen::Made;
 use retraction_gen::Next;
 use retraction_gen::RetractionGen;
 use retraction_gen::Stepped;
-use roll::SourceAndTargets;
-use roll::UnCaptureKind;
+use retraction_list::SourceAndTargets;
+use retraction_list::UnCaptureKind;
 
 // `cursor TAB len index uncaptured m0 .. m5 place:source:targets:kind:mark ..`: what one press yields, and the cursor after it.
 // `press` has the same field and lends the cursor.
@@ -18,15 +18,19 @@ pub(super) fn press(lent: bool, line: &[u8], out: &mut [u8; 65536]) -> usize {
     let g = read(line, at);
     let s = moved_on(lent, g);
     let answer = s.next;
-    let after = s.cursor;
     let n = put_yield(answer, out);
-    let a = puts::next_number(out, n, after.len as u64);
-    let b = puts::next_number(out, a, after.index as u64);
-    let c = puts::next_number(out, b, after.uncaptured as u64);
+    let after = s.cursor;
+    put_fields(after, out, n)
+}
+
+fn put_fields(g: RetractionGen, out: &mut [u8; 65536], len: usize) -> usize {
+    let a = puts::next_number(out, len, g.len as u64);
+    let b = puts::next_number(out, a, g.index as u64);
+    let c = puts::next_number(out, b, g.uncaptured as u64);
     let d = puts::bytes(out, c, b" ");
-    let masks = after.masks;
+    let masks = g.masks;
     let e = puts::sets(out, d, masks);
-    put_places(after, out, e)
+    put_places(g, out, e)
 }
 
 fn moved_on(lent: bool, g: RetractionGen) -> Stepped {

@@ -3,7 +3,8 @@ use laws::CastleRights;
 use laws::ChessRetraction;
 use laws::Color;
 use laws::EnPassantFlag;
-ghost use Prim.Native.Nat.{_≤_};
+ghost use Prim.Native.Nat.{_+_, _-_, _≤_};
+ghost use lib.ListN.{length};
 
 // The byte at a place, or a newline, which no line has.
 pub(super) fn byte(line: &[u8], at: usize) -> u8 {
@@ -22,16 +23,24 @@ pub(super) fn starts(line: &[u8], word: &[u8]) -> bool {
     true
 }
 
-// The place behind the next `sep`, or the line's end.
-pub(super) fn after(line: &[u8], at: usize, sep: u8) -> usize {
+// The place of the next `sep`, or the line's end; a place past that stays.
+pub(super) fn stop(line: &[u8], at: usize, sep: u8) -> usize
+    ensures { λ r. ⌜ (at ≤ r) × (r ≤ at + (length (now (line .entry)) - at)) ⌝ }
+{
     let mut i = at;
     while i < line.len() {
         if line[i] == sep {
-            return i + 1;
+            return i;
         }
         i += 1;
     }
     i
+}
+
+// The place behind the next `sep`, or the line's end.
+pub(super) fn after(line: &[u8], at: usize, sep: u8) -> usize {
+    let i = stop(line, at, sep);
+    if i < line.len() { i + 1 } else { i }
 }
 
 // The place behind the next n `sep`s, or the line's end.
@@ -45,19 +54,43 @@ pub(super) fn past(line: &[u8], at: usize, sep: u8, n: usize) -> usize {
     to
 }
 
-// A hexadecimal number, up to the first byte that is no digit.
-pub(super) fn hex(line: &[u8], at: usize) -> u64 {
+// A number of digits below `base`, up to the first byte that is none.
+fn number_in(base: u64, line: &[u8], at: usize) -> u64 {
     let mut x = 0u64;
     let mut i = at;
     while i < line.len() {
-        let d = feed::hex_digit(line[i]);
-        if d > 15 {
+        let d = input::hex_digit(line[i]);
+        if d >= base {
             return x;
         }
-        x = (x << 4) | d;
+        x = with_digit(base, x, d);
         i += 1;
     }
     x
+}
+
+// A number with one more digit: the last sixteen hexadecimal ones, and in decimal the largest number where it grows above it.
+fn with_digit(base: u64, x: u64, d: u64) -> u64 {
+    if base == 16 {
+        return (x << 4) | d;
+    }
+    if x > 1844674407370955160 {
+        return u64::MAX;
+    }
+    if d > 9 {
+        return u64::MAX;
+    }
+    x * 10 + d
+}
+
+// A hexadecimal number.
+pub(super) fn hex(line: &[u8], at: usize) -> u64 {
+    number_in(16, line, at)
+}
+
+// A decimal number, the largest one for all above it.
+pub(super) fn number(line: &[u8], at: usize) -> u64 {
+    number_in(10, line, at)
 }
 
 // Two sets and six, single spaces between.
@@ -76,40 +109,7 @@ pub(super) fn sets(line: &[u8], at: usize) -> [u64; 6] {
     ]
 }
 
-fn digit(b: u8) -> u64 {
-    match b {
-        b'0'..=b'9' => (b - b'0') as u64,
-        _ => 10,
-    }
-}
-
-// A decimal number, up to the first byte that is no digit; the largest one for all above it.
-pub(super) fn number(line: &[u8], at: usize) -> u64 {
-    let mut x = 0u64;
-    let mut i = at;
-    while i < line.len() {
-        let d = digit(line[i]);
-        if d > 9 {
-            return x;
-        }
-        x = shifted(x, d);
-        i += 1;
-    }
-    x
-}
-
-// A number with one more digit, the largest one where it grows above it.
-fn shifted(x: u64, d: u64) -> u64 {
-    if x > 1844674407370955160 {
-        return u64::MAX;
-    }
-    if d > 9 {
-        return u64::MAX;
-    }
-    x * 10 + d
-}
-
-// The same, 255 for a number above it.
+// A decimal number, 255 for all above it.
 pub(super) fn decimal(line: &[u8], at: usize) -> u8 {
     let x = number(line, at);
     if x > 255 { 255 } else { x as u8 }
@@ -134,23 +134,12 @@ pub(super) fn turn(b: u8) -> Color {
 
 // Whether a letter stands in the field at a place.
 fn marked(line: &[u8], at: usize, letter: u8) -> bool {
-    let mut i = at;
-    while i < line.len() {
-        let b = line[i];
-        if b == b' ' {
-            return false;
-        }
-        if b == letter {
-            return true;
-        }
-        i += 1;
-    }
-    false
+    stop(line, at, letter) < stop(line, at, b' ')
 }
 
 // The rights of a colour, by its letters.
 pub(super) fn rights(line: &[u8], at: usize, short: u8, long: u8) -> CastleRights {
-    placing::inner::rights_for(marked(line, at, short), marked(line, at, long))
+    laws::inner::castling::rights_for(marked(line, at, short), marked(line, at, long))
 }
 
 // `-`, `?` or the number of a square.

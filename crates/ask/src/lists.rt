@@ -1,13 +1,13 @@
 // The masks and the entries of a board's cursor, and what is asked of its lists.
 use super::puts;
-use accept::Verdict;
 use limited::Limited;
-use listing::Listed;
+use refusal::Verdict;
 use retraction_gen::Made;
 use retraction_gen::Masks;
 use retraction_gen::RetractionGen;
-use roll::SourceAndTargets;
-use roll::UnCaptureKind;
+use retraction_list::SourceAndTargets;
+use retraction_list::UnCaptureKind;
+use slots::Listed;
 use strict::Counted;
 use strict::LastMove;
 

@@ -1,8 +1,7 @@
 // Answers each line of standard input, a verb and its fields between tabs, with one line.
-use feed::Step;
+use input::Step;
 use libc::STDOUT_FILENO;
 ghost use Prim.Native.Nat.{_≤_};
-ghost use lib.ListN.{length};
 
 mod boards; // boards.rt: boards read, what is put of them, replay and raw men
 mod cursors; // cursors.rt: any cursor pressed once, and a board's whole sequence
@@ -22,26 +21,25 @@ fn main() {
     answer_all(&mut chunk, &mut line, &mut out);
 }
 
-// The turns are counted down from a number that no input uses up.
+// No input uses the turns up.
 fn answer_all(chunk: &mut [u8; 65536], line: &mut [u8; 512], out: &mut [u8; 65536]) {
-    let mut c = feed::start();
-    let mut turns = u64::MAX;
-    while turns > 0 {
-        let s = feed::next(chunk, line, c);
+    let mut c = input::start();
+    for _ in 0..u64::MAX {
+        let s = input::next(chunk, line, c);
         let Step::Line { len, long: _, next } = s else {
             return;
         };
         answer(line, len, out);
         c = next;
-        turns -= 1;
     }
 }
 
 // One write a line.
-fn answer(line: &[u8], len: usize, out: &mut [u8; 65536])
-    requires { ⌜ len ≤ length (now line) ⌝ }
+fn answer(line: &[u8; 512], len: usize, out: &mut [u8; 65536])
+    requires { ⌜ len ≤ 512 ⌝ }
 {
-    let n = verbs::reply(&line[..len], out);
+    let asked: &[u8] = line;
+    let n = verbs::reply(&asked[..len], out);
     let text: &[u8] = out;
     io::write_all(STDOUT_FILENO, &text[..n]);
 }

@@ -1,8 +1,8 @@
 // Bytes, numbers and sets put behind the first bytes of an answer, which stays as it is where there is no room.
-use accept::Refusal;
+use refusal::Refusal;
 
 pub(super) fn bytes(out: &mut [u8; 65536], len: usize, text: &[u8]) -> usize {
-    feed::put_bytes(out, len, text).used(len)
+    output::put_bytes(out, len, text).used(len)
 }
 
 // The first n bytes of a text, none where it has fewer.
@@ -14,12 +14,12 @@ pub(super) fn front(out: &mut [u8; 65536], len: usize, text: &[u8], n: usize) ->
 }
 
 pub(super) fn number(out: &mut [u8; 65536], len: usize, x: u64) -> usize {
-    feed::put_decimal(out, len, x).used(len)
+    output::put_decimal(out, len, x).used(len)
 }
 
 // Sixteen hexadecimal digits.
 pub(super) fn set(out: &mut [u8; 65536], len: usize, x: u64) -> usize {
-    feed::put_hex16(out, len, x).used(len)
+    output::put_hex16(out, len, x).used(len)
 }
 
 pub(super) fn next_number(out: &mut [u8; 65536], len: usize, x: u64) -> usize {
@@ -61,7 +61,7 @@ pub(super) fn told(out: &mut [u8; 65536], yes: bool) -> usize {
 
 // `refused N`
 pub(super) fn refused(r: Refusal, out: &mut [u8; 65536]) -> usize {
-    refused_by(out, 0, accept::number(r))
+    refused_by(out, 0, refusal::number(r))
 }
 
 pub(super) fn refused_by(out: &mut [u8; 65536], len: usize, n: u8) -> usize {

@@ -4,11 +4,11 @@ use super::cursors;
 use super::fields;
 use super::lists;
 use super::puts;
-use accept::Verdict;
 use board::RetractableBoard;
 use laws::ChessRetraction;
 use laws::Color;
 use laws::EnPassantFlag;
+use refusal::Verdict;
 use retraction_gen::RetractionGen;
 
 enum Question {

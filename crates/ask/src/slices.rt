@@ -3,10 +3,11 @@
 use super::boards;
 use super::fields;
 use super::puts;
-use accept::Refusal;
-use accept::Verdict;
 use board::Boarded;
-use listing::Listed;
+use board::RetractableBoard;
+use refusal::Refusal;
+use refusal::Verdict;
+use slots::Listed;
 use text::Printed;
 
 // `print TAB text TAB size`
@@ -70,12 +71,17 @@ fn listed(strict: bool, today: Boarded, slots: &mut [u16]) -> Listed {
         Verdict::Refused(r) => Listed::Refused(r),
         Verdict::Accepted => {
             let b = today.board;
-            if strict {
-                strict::strict_into(b, slots)
-            } else {
-                listing::retractions_into(b, slots)
-            }
+            into(strict, b, slots)
         }
+    }
+}
+
+// The strict list, or the ported one.
+pub(super) fn into(strict: bool, b: RetractableBoard, slots: &mut [u16]) -> Listed {
+    if strict {
+        strict::strict_into(b, slots)
+    } else {
+        listing::retractions_into(b, slots)
     }
 }
 

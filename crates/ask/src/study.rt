@@ -3,11 +3,11 @@
 use super::boards;
 use super::fields;
 use super::puts;
-use accept::Verdict;
 use desks::Fetched;
 use desks::Placed;
 use desks::Told;
 use desks::Why;
+use refusal::Verdict;
 ghost use Prim.Native.Nat.{_≤_};
 
 pub(super) fn run(line: &[u8], out: &mut [u8; 65536]) -> usize {
@@ -112,7 +112,7 @@ fn put_board(
     let today = boards::read(line, at);
     let v = today.verdict;
     match v {
-        Verdict::Refused(r) => puts::refused_by(out, len, accept::number(r)),
+        Verdict::Refused(r) => puts::refused_by(out, len, refusal::number(r)),
         Verdict::Accepted => {
             let b = today.board;
             put_placed(desks::put(table, desk, b), out, len)

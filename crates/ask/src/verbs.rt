@@ -36,6 +36,11 @@ fn by_verb(line: &[u8], out: &mut [u8; 65536]) -> usize {
     if fields::starts(line, b"press\t") {
         return cursors::press(true, line, out);
     }
+    by_lender(line, out)
+}
+
+// The verbs that lend a slice of a size that stands in the line.
+fn by_lender(line: &[u8], out: &mut [u8; 65536]) -> usize {
     if fields::starts(line, b"print\t") {
         return slices::print(line, out);
     }

@@ -16,7 +16,7 @@ use Rattle.laws.specs.declared.Piece.the-variants.{Pawn, Knight, Bishop, Rook, 
 use Rattle.laws.specs.Men.{Man, empty, man, Men, isOf, isKind, isEmpty, bare}
 use Rattle.laws.specs.Attacks.{attacks, attacksFrom, attackersOf, unionOf}
 use Rattle.laws.specs.Boards.{kindSet, colorSet, menAt, Clean}
-use Rattle.attacks.specs.Meeting.{metOf}
+use Rattle.attacks.specs.inner.Meeting.{metOf}
 use Rattle.squares.proofs.Testing.{agree, agree-eq}
 use Rattle.squares.proofs.Digits.{has-and, has-or}
 use Rattle.squares.proofs.Comprehension.{is-upTo, has-setOf}

@@ -4,7 +4,7 @@ ghost use mathlib.Core.Path.{_≡_};
 ghost use Prim.Native.Nat.{_<_};
 ghost use Rattle.laws.specs.Attacks.{attackersOf, attacked};
 ghost use Rattle.laws.specs.Boards.{menAt, Clean};
-ghost use Rattle.attacks.specs.Meeting.{metOf};
+ghost use Rattle.attacks.specs.inner.Meeting.{metOf};
 
 // Each kind met with the squares that it attacks from.
 pub fn met(

@@ -7,19 +7,18 @@ use native.Mathlib.Omega.{arith}
 use lib.Dec.{eqb, leb, ltb}
 use borrow.Author.Tests.{ltb-true, ne-eqb}
 use Rattle.squares.specs.Tests.{_and_}
-use Rattle.laws.specs.Positions.{rightsOf}
 use Rattle.laws.specs.Acceptance.{kingsOk, pawnsOk, rightsOk, stateOk, quiet}
 use Rattle.laws.specs.Boards.{menOk}
-use Rattle.accept.specs.declared.Refusal.{Refusal}
-use Rattle.accept.specs.declared.Refusal.the-variants.{Men as men, Kings as kings, Pawn as pawn, Rights as rights, Passant as passant, Check as check, Stale}
-use Rattle.accept.specs.declared.Verdict.{Verdict}
-use Rattle.accept.specs.declared.Verdict.the-variants.{Accepted, Refused}
-use Rattle.accept.specs.Verdicts.{numberOf, verdictNumber}
-use Rattle.accept.specs.Said.{_else_, firstFailing, Said, says, numberSaid, told, fitting, behind}
+use Rattle.refusal.specs.declared.Refusal.{Refusal}
+use Rattle.refusal.specs.declared.Refusal.the-variants.{Men as men, Kings as kings, Pawn as pawn, Rights as rights, Passant as passant, Check as check, Stale}
+use Rattle.refusal.specs.declared.Verdict.{Verdict}
+use Rattle.refusal.specs.declared.Verdict.the-variants.{Accepted, Refused}
+use Rattle.refusal.specs.Refusals.{numberOf, verdictNumber}
+use Rattle.refusal.specs.Said.{_else_, firstFailing, Said, says, numberSaid, told, fitting, behind}
 use Rattle.board.specs.declared.RetractableBoard.{RetractableBoard}
-use Rattle.board.specs.Gate.{menOn, freshBy, gateOf, boardTests}
+use Rattle.board.specs.Gate.{menOn, posOn, freshOn, gateOf, boardTests}
 use Rattle.laws.proofs.Cases.{by-cases}
-use Rattle.accept.proofs.Saying.{verdict-one}
+use Rattle.refusal.proofs.Saying.{verdict-one}
 use Rattle.board.proofs.Passing.{gate-number}
 
 -- what the gate refuses, and where it passes
@@ -34,17 +33,13 @@ module _ (b : RetractableBoard) (v : Verdict) (e : v ≡ gateOf b) where
 pub passed-gate : (b : RetractableBoard) → firstFailing (boardTests b) ≡ 0 → gateOf b ≡ Accepted
 passed-gate b h = verdict-one (gateOf b) Accepted (gate-number b ∙ h)
 
-pub refused-gate : (b : RetractableBoard) (r : Refusal) → numberOf r ≡ firstFailing (boardTests b) → gateOf b ≡ Refused r
-refused-gate b r h = verdict-one (gateOf b) (Refused r) (gate-number b ∙ sym h)
-
 -- 1 to 7 are numbers below 8
 board-number : (b : RetractableBoard) → firstFailing (boardTests b) < 8
 unfolding firstFailing _and_
 board-number b =
     ltb-true _ 8 (by-cases 7
     (λ m k p r s q f. ltb (firstFailing ((m else men) ∷ (k else kings) ∷ (p else pawn) ∷ (r else rights) ∷ (s else passant) ∷ (q else check) ∷ (f else Stale) ∷ [])) 8) refl
-    (menOk (b .pieces) (b .colors)) (kingsOk (menOn b)) (pawnsOk (menOn b)) (rightsOk (menOn b) (rightsOf (b .white) (b .black))) (stateOk (menOn b) (b .turn) (b .passant)) (quiet (menOn b) (b .turn))
-    (freshBy (menOn b) (b .turn) (b .combined) (b .checkers) (b .pinned)))
+    (menOk (b .pieces) (b .colors)) (kingsOk (menOn b)) (pawnsOk (menOn b)) (rightsOk (menOn b) (posOn b .rights)) (stateOk (menOn b) (b .turn) (b .passant)) (quiet (menOn b) (b .turn)) (freshOn b))
 
 -- a number above 7 is given exactly when 1 to 7 pass and what stands behind them has it
 pub above-seven : (b : RetractableBoard) (x : Said) (n : ℕ) → 8 ≤ n → eqb (numberSaid (behind (boardTests b) x)) n ≡ (eqb (firstFailing (boardTests b)) 0 and eqb (numberSaid x) n)

@@ -1,21 +1,19 @@
 -- What a board's methods say leaves one answer: a verdict with the number of the first test that fails gives what is promised, and any two
 -- answers that say the same are the same.
 use mathlib.Core.Path.{_≡_, refl, sym, ap, _∙_}
-use mathlib.Core.Bool.{Bool, true, false, cond}
-use mathlib.Core.List.{List, [], _∷_, _++_}
+use mathlib.Core.Bool.{cond}
+use mathlib.Core.List.{List, [], _∷_}
 use Prim.Native.Nat.{ℕ}
 use native.Mathlib.Omega.{arith}
 use lib.Dec.{eqb}
 use lib.ListN.{getD}
-use borrow.Author.Tests.{eqb-true}
 use Rattle.laws.specs.declared.Piece.{Piece}
 use Rattle.laws.specs.declared.Piece.the-variants.{Pawn, Knight, Bishop, Rook, Queen, King}
 use Rattle.laws.specs.Men.{kindNumber}
-use Rattle.accept.specs.declared.Refusal.{Refusal}
-use Rattle.accept.specs.declared.Verdict.{Verdict}
-use Rattle.accept.specs.declared.Verdict.the-variants.{Accepted, Refused}
-use Rattle.accept.specs.Verdicts.{numberOf, verdictNumber, andThen}
-use Rattle.accept.specs.Said.{Test, firstFailing, Said}
+use Rattle.refusal.specs.declared.Verdict.{Verdict}
+use Rattle.refusal.specs.declared.Verdict.the-variants.{Accepted, Refused}
+use Rattle.refusal.specs.Refusals.{verdictNumber}
+use Rattle.refusal.specs.Said.{Test, firstFailing, Said}
 use Rattle.board.specs.declared.RetractableBoard.{RetractableBoard}
 use Rattle.board.specs.declared.Boarded.{Boarded}
 use Rattle.board.specs.declared.PieceOn.{PieceOn}
@@ -26,7 +24,7 @@ use Rattle.board.specs.declared.Attacked.the-variants.{Yes, No, Refused 
 use Rattle.board.specs.declared.AttackTold.{AttackTold}
 use Rattle.board.specs.Gate.{noBoard, keptBy, boardedBy}
 use Rattle.board.specs.Said.{keptBehind, Boards, Tells, pieceSays, attackedSays}
-use Rattle.accept.proofs.Saying.{some-number, number-one, verdict-one, saidBy, behind-by}
+use Rattle.refusal.proofs.Saying.{some-number, number-one, verdict-one, saidBy, behind-by}
 
 module _ (v : Verdict) (ts : List Test) (b : RetractableBoard) (h : verdictNumber v ≡ firstFailing ts) where
   -- the board beside a verdict

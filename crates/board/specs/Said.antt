@@ -4,8 +4,8 @@ use mathlib.Core.Bool.{cond}
 use mathlib.Core.List.{List, [], _∷_}
 use lib.Dec.{eqb}
 use Rattle.laws.specs.Men.{kindNumber}
-use Rattle.accept.specs.Verdicts.{verdictNumber}
-use Rattle.accept.specs.Said.{Test, firstFailing, Said, told, refusal, behind}
+use Rattle.refusal.specs.Refusals.{verdictNumber}
+use Rattle.refusal.specs.Said.{Test, firstFailing, Said, told, refusal, behind}
 use Rattle.board.specs.declared.RetractableBoard.{RetractableBoard}
 use Rattle.board.specs.declared.Boarded.{Boarded}
 use Rattle.board.specs.declared.PieceOn.{PieceOn}

@@ -7,18 +7,16 @@ use laws::Color;
 use laws::EnPassantFlag;
 use laws::Piece;
 ghost use mathlib.Core.Path.{_≡_};
-ghost use mathlib.Core.Bool.{true};
 ghost use Prim.Native.Nat.{_<_};
 ghost use Rattle.geometry.specs.Lines.{IsBetween};
 ghost use Rattle.laws.specs.Men.{numbered};
 ghost use Rattle.laws.specs.Attacks.{checkersOf, pinsOf};
-ghost use Rattle.laws.specs.Acceptance.{kingsOk};
-ghost use Rattle.laws.specs.Boards.{Clean};
-ghost use Rattle.accept.specs.declared.Verdict.the-variants.{Accepted};
+ghost use Rattle.refusal.specs.declared.Verdict.the-variants.{Accepted};
 ghost use Rattle.incremental.specs.Moved.{xorOf, pieceOn, openedOf, retractionBb, steppedOf, uncapturedOf, isUncastling, rightsStored, rookedOf, uncastledOf, isPassantUncapture, rebornOf, rustMoved};
 ghost use Rattle.incremental.specs.Found.{foundStored};
-ghost use Rattle.board.specs.Gate.{menOn, toLaws};
-ghost use Rattle.board.specs.Moving.{unmakeGate, unmadeOn};
+ghost use Rattle.board.specs.Gate.{positionOn, menOn, toLaws};
+ghost use Rattle.board.specs.inner.Gates.{Sound, unmakeGate};
+ghost use Rattle.board.specs.Moving.{unmadeOn};
 
 // The squares between which a king castles, of either colour.
 const CASTLE_MOVES: u64 = 6052837899185946708;
@@ -146,8 +144,8 @@ impl RetractableBoard {
         requires { ⌜ (f < 8) × (g < 8) ⌝ }
         ensures { λ z. ⌜ toLaws z ≡ rookedOf (toLaws self) color f g rights ⌝ }
     {
-        let castled = scene::inner::home_square(color, f);
-        let corner = scene::inner::home_square(color, g);
+        let castled = geometry::inner::home_square(color, f);
+        let corner = geometry::inner::home_square(color, g);
         self = self.xor(
             Piece::Rook,
             squares::bit(castled) ^ squares::bit(corner),
@@ -183,7 +181,7 @@ impl RetractableBoard {
         ensures { λ z. ⌜ toLaws z ≡ rebornOf (toLaws self) piece r color turn ⌝ }
     {
         if is_passant_uncapture(piece, r) {
-            let square = scene::inner::ubackward(color, r.source);
+            let square = geometry::inner::ubackward(color, r.source);
             self = RetractableBoard {
                 passant: EnPassantFlag::Some(square),
                 ..self
@@ -210,7 +208,7 @@ impl RetractableBoard {
 
     // Checkers and pins of clean men, worked afresh.
     fn searched(mut self, t: &[u64; 4096]) -> RetractableBoard
-        requires { ⌜ IsBetween (now t) × Clean (self .pieces) (self .colors) × (kingsOk (menOn self) ≡ true) ⌝ }
+        requires { ⌜ IsBetween (now t) × Sound (positionOn self) ⌝ }
         ensures { λ z. ⌜ toLaws z ≡ foundStored (toLaws self) (checkersOf (menOn self) (self .turn)) (pinsOf (menOn self) (self .turn)) ⌝ }
     {
         let pieces = self.pieces;

@@ -1,19 +1,16 @@
 // The gate, what stands beside its verdict, and a board from raw men, over a lent table of squares between.
 use super::Boarded;
 use super::RetractableBoard;
-use accept::Refusal;
-use accept::Verdict;
-use laws::CastleRights;
-use laws::Color;
 use laws::EnPassantFlag;
+use laws::Position;
+use refusal::Refusal;
+use refusal::Verdict;
 ghost use mathlib.Core.Path.{_≡_};
-ghost use mathlib.Core.Bool.{true, not};
+ghost use mathlib.Core.Bool.{not};
 ghost use Rattle.geometry.specs.Lines.{IsBetween};
-ghost use Rattle.laws.specs.Acceptance.{kingsOk};
-ghost use Rattle.laws.specs.Boards.{menAt, Clean};
-ghost use Rattle.board.specs.Gate.{freshBy, staleAfter, gateOf, keptBy, boardedBy, Kept};
-ghost use Rattle.board.specs.Answers.{workedOf, newOf, askGate, stateGate};
-ghost use Rattle.board.specs.Moving.{earlierOf};
+ghost use Rattle.board.specs.Gate.{positionOn, freshOn, staleAfter, gateOf, keptBy, boardedBy};
+ghost use Rattle.board.specs.inner.Gates.{Sound, Kept, newOf, askGate, stateGate, earlierOf};
+ghost use Rattle.board.specs.Answers.{workedOf};
 
 pub mod moving; // moving.rt: what un-make refuses, and replay of a board
 
@@ -35,43 +32,49 @@ pub fn board_by(v: Verdict, b: RetractableBoard) -> Boarded
     Boarded { verdict: v, board }
 }
 
-// 7 STALE
-pub fn stale(
-    t: &[u64; 4096],
-    pieces: [u64; 6],
-    colors: [u64; 2],
-    turn: Color,
-    combined: u64,
-    checkers: u64,
-    pinned: u64,
-) -> bool
-    requires { ⌜ IsBetween (now t) × Clean pieces colors × (kingsOk (menAt pieces colors) ≡ true) ⌝ }
-    ensures { λ r. ⌜ r ≡ not (freshBy (menAt pieces colors) turn combined checkers pinned) ⌝ }
+// A board's fields without the worked-out ones.
+pub fn position_of(b: RetractableBoard) -> Position
+    ensures { λ p. ⌜ p ≡ positionOn b ⌝ }
 {
+    let pieces = b.pieces;
+    let colors = b.colors;
+    let turn = b.turn;
+    let white = b.white;
+    let black = b.black;
+    let passant = b.passant;
+    Position {
+        pieces,
+        colors,
+        turn,
+        white,
+        black,
+        passant,
+    }
+}
+
+// 7 STALE
+fn stale(t: &[u64; 4096], b: RetractableBoard) -> bool
+    requires { ⌜ IsBetween (now t) × Sound (positionOn b) ⌝ }
+    ensures { λ r. ⌜ r ≡ not (freshOn b) ⌝ }
+{
+    let pieces = b.pieces;
+    let colors = b.colors;
+    let turn = b.turn;
     let men = men::inner::occupied(pieces, colors);
     let checks = pins::inner::checkers(pieces, colors, turn);
     let pins = pins::inner::pins(t, pieces, colors, turn);
-    !((combined == men) & (checkers == checks) & (pinned == pins))
+    !((b.combined == men) & (b.checkers == checks) & (b.pinned == pins))
 }
 
 // What is refused already, else 7.
-pub fn stale_after(
-    t: &[u64; 4096],
-    v: Verdict,
-    pieces: [u64; 6],
-    colors: [u64; 2],
-    turn: Color,
-    combined: u64,
-    checkers: u64,
-    pinned: u64,
-) -> Verdict
-    requires { ⌜ IsBetween (now t) × Kept v pieces colors ⌝ }
-    ensures { λ r. ⌜ r ≡ staleAfter v (menAt pieces colors) turn combined checkers pinned ⌝ }
+fn stale_after(t: &[u64; 4096], v: Verdict, b: RetractableBoard) -> Verdict
+    requires { ⌜ IsBetween (now t) × Kept v (positionOn b) ⌝ }
+    ensures { λ r. ⌜ r ≡ staleAfter v b ⌝ }
 {
     match v {
         Verdict::Refused(r) => Verdict::Refused(r),
         Verdict::Accepted => {
-            if stale(t, pieces, colors, turn, combined, checkers, pinned) {
+            if stale(t, b) {
                 return Verdict::Refused(Refusal::Stale);
             }
             Verdict::Accepted
@@ -84,14 +87,9 @@ pub fn gate(t: &[u64; 4096], b: RetractableBoard) -> Verdict
     requires { ⌜ IsBetween (now t) ⌝ }
     ensures { λ v. ⌜ v ≡ gateOf b ⌝ }
 {
-    let pieces = b.pieces;
-    let colors = b.colors;
-    let turn = b.turn;
-    let white = b.white;
-    let black = b.black;
-    let passant = b.passant;
-    let v = accept::inner::judge(pieces, colors, turn, white, black, passant);
-    stale_after(t, v, pieces, colors, turn, b.combined, b.checkers, b.pinned)
+    let p = position_of(b);
+    let v = accept::inner::judge(p);
+    stale_after(t, v, b)
 }
 
 // Refusals 1 to 7, then 9 for a square asked about.
@@ -120,10 +118,9 @@ pub fn state_gate(t: &[u64; 4096], b: RetractableBoard, passant: EnPassantFlag) 
     match v {
         Verdict::Refused(r) => Verdict::Refused(r),
         Verdict::Accepted => {
-            let pieces = b.pieces;
-            let colors = b.colors;
-            let turn = b.turn;
-            if accept::inner::tests::bad_passant(pieces, colors, turn, passant) {
+            let today = position_of(b);
+            let p = Position { passant, ..today };
+            if accept::inner::refusals::bad_passant(p) {
                 return Verdict::Refused(Refusal::Passant);
             }
             Verdict::Accepted
@@ -131,19 +128,17 @@ pub fn state_gate(t: &[u64; 4096], b: RetractableBoard, passant: EnPassantFlag) 
     }
 }
 
-// The union, checkers and pins of clean men, worked out.
-pub fn worked(
-    t: &[u64; 4096],
-    pieces: [u64; 6],
-    colors: [u64; 2],
-    turn: Color,
-    white: CastleRights,
-    black: CastleRights,
-    passant: EnPassantFlag,
-) -> RetractableBoard
-    requires { ⌜ IsBetween (now t) × Clean pieces colors × (kingsOk (menAt pieces colors) ≡ true) ⌝ }
-    ensures { λ r. ⌜ r ≡ workedOf pieces colors turn white black passant ⌝ }
+// A position's board: union, checkers and pins worked out.
+fn worked(t: &[u64; 4096], p: Position) -> RetractableBoard
+    requires { ⌜ IsBetween (now t) × Sound p ⌝ }
+    ensures { λ r. ⌜ r ≡ workedOf p ⌝ }
 {
+    let pieces = p.pieces;
+    let colors = p.colors;
+    let turn = p.turn;
+    let white = p.white;
+    let black = p.black;
+    let passant = p.passant;
     let combined = men::inner::occupied(pieces, colors);
     let checkers = pins::inner::checkers(pieces, colors, turn);
     let pinned = pins::inner::pins(t, pieces, colors, turn);
@@ -161,58 +156,33 @@ pub fn worked(
 }
 
 // What is refused already, else the board worked out.
-pub fn worked_after(
-    t: &[u64; 4096],
-    v: Verdict,
-    pieces: [u64; 6],
-    colors: [u64; 2],
-    turn: Color,
-    white: CastleRights,
-    black: CastleRights,
-    passant: EnPassantFlag,
-) -> Boarded
-    requires { ⌜ IsBetween (now t) × Kept v pieces colors ⌝ }
-    ensures { λ r. ⌜ r ≡ boardedBy v (workedOf pieces colors turn white black passant) ⌝ }
+fn worked_after(t: &[u64; 4096], v: Verdict, p: Position) -> Boarded
+    requires { ⌜ IsBetween (now t) × Kept v p ⌝ }
+    ensures { λ r. ⌜ r ≡ boardedBy v (workedOf p) ⌝ }
 {
     match v {
         Verdict::Refused(r) => board_by(Verdict::Refused(r), super::no_board()),
         Verdict::Accepted => {
-            let b = worked(t, pieces, colors, turn, white, black, passant);
+            let b = worked(t, p);
             board_by(Verdict::Accepted, b)
         }
     }
 }
 
 // A board from raw men: refusals 1 to 6.
-pub fn board_from(
-    t: &[u64; 4096],
-    pieces: [u64; 6],
-    colors: [u64; 2],
-    turn: Color,
-    white: CastleRights,
-    black: CastleRights,
-    passant: EnPassantFlag,
-) -> Boarded
+pub fn board_from(t: &[u64; 4096], p: Position) -> Boarded
     requires { ⌜ IsBetween (now t) ⌝ }
-    ensures { λ r. ⌜ r ≡ newOf pieces colors turn white black passant ⌝ }
+    ensures { λ r. ⌜ r ≡ newOf p ⌝ }
 {
-    let v = accept::inner::judge(pieces, colors, turn, white, black, passant);
-    worked_after(t, v, pieces, colors, turn, white, black, passant)
+    let v = accept::inner::judge(p);
+    worked_after(t, v, p)
 }
 
 // A board that replay takes, from raw men: refusals 1 to 5.
-pub fn earlier_from(
-    t: &[u64; 4096],
-    pieces: [u64; 6],
-    colors: [u64; 2],
-    turn: Color,
-    white: CastleRights,
-    black: CastleRights,
-    passant: EnPassantFlag,
-) -> Boarded
+pub fn earlier_from(t: &[u64; 4096], p: Position) -> Boarded
     requires { ⌜ IsBetween (now t) ⌝ }
-    ensures { λ r. ⌜ r ≡ earlierOf pieces colors turn white black passant ⌝ }
+    ensures { λ r. ⌜ r ≡ earlierOf p ⌝ }
 {
-    let v = accept::inner::five(pieces, colors, turn, white, black, passant);
-    worked_after(t, v, pieces, colors, turn, white, black, passant)
+    let v = accept::inner::five(p);
+    worked_after(t, v, p)
 }

@@ -1,19 +1,20 @@
 // The board of the Rust's board.rs, its gate (refusals 1 to 7) and its small methods. Every entry that takes a board tests it first.
-use accept::Refusal;
-use accept::Verdict;
 use laws::CastleRights;
 use laws::ChessRetraction;
 use laws::Color;
 use laws::EnPassantFlag;
 use laws::Piece;
+use laws::Position;
+use refusal::Refusal;
+use refusal::Verdict;
 ghost use mathlib.Core.Path.{_≡_};
 ghost use mathlib.Core.List.{_++_};
 ghost use Rattle.laws.specs.Attacks.{attacked};
-ghost use Rattle.laws.specs.Positions.{rightsOf};
-ghost use Rattle.accept.specs.Said.{rawTests};
-ghost use Rattle.board.specs.Gate.{menOn, posOn, boardTests, noBoard};
+ghost use Rattle.accept.specs.Verdicts.{rawTests};
+ghost use Rattle.board.specs.Gate.{menOn, posOn, boardTests, positionFrom, noBoard};
 ghost use Rattle.board.specs.Said.{Boards, Tells, pieceSays, attackedSays};
-ghost use Rattle.board.specs.Answers.{workedOf, askTests, kindOn, kindRead, toldBy, stateTests, withPassant, uncertain};
+ghost use Rattle.board.specs.Answers.{workedOf, askTests, kindOn, stateTests, withPassant, uncertain};
+ghost use Rattle.board.specs.inner.Gates.{kindRead, toldBy};
 ghost use Rattle.board.specs.Moving.{unmakeTests, unmadeOn, replayTests, replayedOn};
 
 mod back; // back.rt: how the board's own sets go back
@@ -89,10 +90,18 @@ impl RetractableBoard {
         black: CastleRights,
         passant: EnPassantFlag,
     ) -> Boarded
-        ensures { λ r. ⌜ Boards (rawTests pieces colors turn (rightsOf white black) passant) (workedOf pieces colors turn white black passant) r ⌝ }
+        ensures { λ r. ⌜ Boards (rawTests (positionFrom pieces colors turn white black passant)) (workedOf (positionFrom pieces colors turn white black passant)) r ⌝ }
     {
         let t = tables::between_table();
-        inner::board_from(&t, pieces, colors, turn, white, black, passant)
+        let p = Position {
+            pieces,
+            colors,
+            turn,
+            white,
+            black,
+            passant,
+        };
+        inner::board_from(&t, p)
     }
 
     // The gate: refusals 1 to 7 of any value.

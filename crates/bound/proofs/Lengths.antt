@@ -9,9 +9,9 @@ use lib.Dec.{eqb}
 use lib.ListN.{length, length-append}
 use Rattle.squares.specs.Squares.{has, flag, countTo, size}
 use Rattle.squares.specs.Members.{listTo, members, concat}
-use Rattle.roll.specs.declared.UnCaptureKind.{UnCaptureKind}
-use Rattle.roll.specs.declared.SourceAndTargets.{SourceAndTargets}
-use Rattle.roll.specs.Roll.{offered}
+use Rattle.retraction_list.specs.declared.UnCaptureKind.{UnCaptureKind}
+use Rattle.retraction_list.specs.declared.SourceAndTargets.{SourceAndTargets}
+use Rattle.retraction_list.specs.Entries.{offered}
 use Rattle.squares.proofs.Members.{concat-both}
 
 abbrev Entries : Type 0

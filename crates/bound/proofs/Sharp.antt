@@ -11,23 +11,23 @@ use lib.ListN.{length}
 use borrow.Author.Tests.{eqb-true, eq-eqb, lt-leb}
 use Rattle.squares.specs.Tests.{_and_, _or_}
 use Rattle.squares.specs.Squares.{has, upTo, countTo, allTo, anyTo}
-use Rattle.squares.specs.Members.{listTo, members, firstOf, forEach, concat}
-use Rattle.geometry.specs.Colors.{opp}
+use Rattle.squares.specs.Members.{listTo, members, lowestOf, firstOf, forEach, concat}
+use Rattle.geometry.specs.Colors.{opp, backOf}
 use Rattle.geometry.specs.Lines.{sameRank, sameFile, sameDiagonal, straight, diagonal, between, betweenOf, line, clear}
 use Rattle.geometry.specs.Steps.{knightStep, kingStep, pawnTakes}
 use Rattle.laws.specs.Acceptance.{accepted}
 use Rattle.laws.specs.Boards.{menAt, kindSets, colorSets, Shaped}
-use Rattle.accept.specs.Said.{firstFailing}
+use Rattle.refusal.specs.Said.{firstFailing}
 use Rattle.board.specs.Gate.{posOn, toLaws, gateOf, boardTests}
-use Rattle.roll.specs.Roll.{offered, captureKind}
-use Rattle.scene.specs.Chess.{adjacentFiles, backOf}
-use Rattle.scene.specs.Scenes.{castlingRooks, within, sceneOf}
-use Rattle.enumerate.specs.Lists.{lesserOf, kindsOf, byCheckers, namedOf, listedOf, listOf}
+use Rattle.retraction_list.specs.Entries.{offered, captureKind}
+use Rattle.geometry.specs.Chess.{adjacentFiles}
+use Rattle.view.specs.Views.{castlingRooks, within, viewOf}
+use Rattle.enumerate.specs.Lists.{lesserOf, kindsOf, byCheckers, namedOf, listOf}
 use Rattle.retraction_gen.specs.Making.{listOn}
-use Rattle.placement.specs.Letters.{numberOf, widthOf, placeOf, manOf, menOf}
-use Rattle.placement.specs.Placement.{runText, squaresFrom, ranksText, menText}
+use Rattle.men_field.specs.inner.Letters.{numberByLetter, widthOf, placeOf, manByNumber, menByNumbers}
+use Rattle.men_field.specs.Placement.{runText, squaresFrom, ranksText, menText}
 use Rattle.text.specs.Form.{printOf, printed}
-use Rattle.text.specs.Reading.{rightOf, squareOf, stepMen, stepTail, stepOf, runOf}
+use Rattle.text.specs.inner.Reading.{rightOf, squareOf, stepMen, stepTail, stepOf, runOf}
 use Rattle.daggers.specs.Names.{bytes}
 use Rattle.bound.specs.Limits.{men, limit, Enough, Needs, Full, sixteen, seventeen, twentyFour, twentyThree}
 use Rattle.squares.proofs.Testing.{order}
@@ -38,7 +38,7 @@ use Rattle.daggers.proofs.Texts.{fieldsIn, boardIn, says, gate, on-text}
 use Rattle.bound.proofs.NeverFull.{enough}
 use Rattle.officers.specs.Officers as officers
 use Rattle.pawns.specs.Pawns as pawns
-use Rattle.passants.specs.Passants as passants
+use Rattle.un_en_passant.specs.UnEnPassants as passants
 use Rattle.kings.specs.Kings as kings
 
 -- what is computed of a text
@@ -47,7 +47,7 @@ Computed t n m =
     (printed (fieldsIn t) ≡ bytes t) × (accepted (posOn (boardIn t)) ≡ true) × (men (boardIn t) (opp (boardIn t .turn)) ≡ n) × (length (listOn (boardIn t)) ≡ m)
 
 computed : Computed sixteen 16 47 × Computed seventeen 17 49 × Computed twentyFour 24 48 × Computed twentyThree 23 47
-unfolding numberOf widthOf placeOf manOf menOf runText squaresFrom ranksText menText printOf rightOf squareOf stepMen stepTail stepOf runOf listOn menAt kindSets colorSets has upTo countTo allTo anyTo listTo members firstOf forEach concat sameRank sameFile sameDiagonal straight diagonal between betweenOf line clear knightStep kingStep pawnTakes offered captureKind adjacentFiles backOf castlingRooks within sceneOf officers.movesOf officers.stepsOf officers.quietOf officers.freeOf officers.fromOf officers.eachOf officers.calmOf officers.aloneAt officers.aloneOf officers.ontoOf officers.bothAt officers.bothOf officers.officerOf pawns.candidateRetractors pawns.otherRayOf pawns.doubledOf pawns.crossedOf pawns.vacantOf pawns.homeOf pawns.unpushOf pawns.uncaptureOf pawns.fromOf pawns.stepsOf passants.besideReborn passants.underOne passants.raysOf passants.oneOfTwo passants.twoOthers passants.underTwo passants.underOf passants.passantAt passants.passantOf passants.pawnOf kings.farOf kings.nearOf kings.attackedOf kings.stepsOf kings.steppedOf kings.safeOf kings.castledOf kings.shortOf kings.longOf kings.uncastledOf kings.kingOf lesserOf kindsOf byCheckers namedOf listedOf listOf _and_ _or_
+unfolding numberByLetter widthOf placeOf manByNumber menByNumbers runText squaresFrom ranksText menText printOf rightOf squareOf stepMen stepTail stepOf runOf listOn menAt kindSets colorSets has upTo countTo allTo anyTo listTo members lowestOf firstOf forEach concat sameRank sameFile sameDiagonal straight diagonal between betweenOf line clear knightStep kingStep pawnTakes offered captureKind adjacentFiles backOf castlingRooks within viewOf officers.movesOf officers.stepsOf officers.quietOf officers.freeOf officers.fromOf officers.eachOf officers.calmOf officers.aloneAt officers.aloneOf officers.ontoOf officers.bothAt officers.bothOf officers.officerOf pawns.candidateRetractors pawns.otherRayOf pawns.doubledOf pawns.crossedOf pawns.homeOf pawns.unpushOf pawns.uncaptureOf pawns.fromOf pawns.stepsOf passants.vacantOf passants.besideReborn passants.underOne passants.raysOf passants.oneOfTwo passants.twoOthers passants.underTwo passants.underOf passants.passantAt passants.passantOf passants.unEnPassantsOf pawns.pawnOf kings.farOf kings.nearOf kings.attackedOf kings.stepsOf kings.steppedOf kings.safeOf kings.castledOf kings.shortOf kings.longOf kings.uncastledOf kings.kingOf lesserOf kindsOf byCheckers namedOf listOf _and_ _or_
 computed = ((refl, refl, refl, refl), (refl, refl, refl, refl), (refl, refl, refl, refl), (refl, refl, refl, refl))
 
 module _ (t : String) (n m : ℕ) (c : Computed t n m) where

@@ -1,4 +1,4 @@
--- The whole list of a scene: 47 entries at most where the retractor has fifteen men besides its king. Nothing is asked of the checkers and pins.
+-- The whole list of a view: 47 entries at most where the retractor has fifteen men besides its king. Nothing is asked of the checkers and pins.
 use mathlib.Core.Path.{_≡_, refl, sym, ap, _∙_}
 use mathlib.Core.Logic.{_⊎_, inl, inr, ⊎-elim}
 use mathlib.Core.Bool.{Bool, true, false, not, cond, true≢false}
@@ -18,11 +18,13 @@ use Rattle.laws.specs.declared.Piece.the-variants.{Pawn, Knight, Bishop, Rook, 
 use Rattle.laws.specs.declared.EnPassantFlag.{EnPassantFlag}
 use Rattle.laws.specs.declared.EnPassantFlag.the-variants.{Any, Some, None}
 use Rattle.laws.specs.Men.{kindPlace}
-use Rattle.laws.specs.Positions.{Side, short, long, rookTo}
+use Rattle.laws.specs.declared.Side.{Side}
+use Rattle.laws.specs.declared.Side.the-variants.{Short as short, Long as long}
+use Rattle.laws.specs.Positions.{rookTo}
 use Rattle.laws.specs.Boards.{kindSet}
-use Rattle.scene.specs.declared.Scene.{Scene}
-use Rattle.scene.specs.Chess.{ownRank}
-use Rattle.enumerate.specs.Lists.{byCheckers, namedOf, byState, listedOf, officersOf}
+use Rattle.view.specs.declared.View.{View}
+use Rattle.geometry.specs.Colors.{ownRank}
+use Rattle.enumerate.specs.Lists.{byCheckers, namedOf, byState, listOf, allButPawns}
 use Rattle.bound.specs.Sections.{checkersOf, castled, entriesOf}
 use Rattle.squares.proofs.Testing.{both, left, right, either, or-left, or-right, cases}
 use Rattle.squares.proofs.Digits.{has-or, has-zero}
@@ -30,17 +32,18 @@ use Rattle.squares.proofs.Comprehension.{flag-lt, has-setOf, has-not, upTo-lt, 
 use Rattle.squares.proofs.Counting.{count-empty}
 use Rattle.officers.specs.Officers as officers
 use Rattle.pawns.specs.Pawns as pawns
+use Rattle.un_en_passant.specs.UnEnPassants as passants
 use Rattle.kings.specs.Kings as kings
 use Rattle.bound.proofs.Counts.{flag-le, count-mono, count-five, count-apart}
 use Rattle.bound.proofs.Lengths.{AtMost, most-none, most-one, most-le, most-if, most-both}
 use Rattle.bound.proofs.Sections.{and-left, and-right, or-of, size-left, king-length, checkers-in, calm-length, counted}
 
 -- a man of the retractor's other than its king
-abbrev pub other : Scene → ℕ → Bool
+abbrev pub other : View → ℕ → Bool
 other s k = has (s .own) k and not (eqb k (s .king))
 
 -- there are fifteen such men at most, and each is of one kind
-pub record Manned (s : Scene) : Type 0 where
+pub record Manned (s : View) : Type 0 where
   pub fifteen : howMany (other s) ≤ 15
   pub kinds-fit : (k : Piece) → kindSet (s .men) k < 2 ^ 64
   pub one-kind : (k : ℕ) → k < 64
@@ -56,14 +59,14 @@ flag-is true h = refl
 flag-is false h = absurd (not-suc-le-zero h)
 
 -- own men on the last rank, but for the king
-abbrev lastMen : Scene → ℕ
+abbrev lastMen : View → ℕ
 lastMen s = bitAnd (bitAnd (pawns.lastRank s) (s .own)) (compl (only (s .king)))
 
 -- the men that un-push or uncapture where the checkers don't rule them out
-abbrev steppers : Scene → ℕ
-steppers s = bitOr (pawns.pawnsOf s) (lastMen s)
+abbrev steppers : View → ℕ
+steppers s = bitOr (passants.pawnsOf s) (lastMen s)
 
-module _ (s : Scene) where
+module _ (s : View) where
   on-last : (k : ℕ) → has (lastMen s) k ≡ true → has (pawns.lastRank s) k ≡ true
   on-last k e = and-left (pawns.lastRank s) (s .own) k (and-left (bitAnd (pawns.lastRank s) (s .own)) _ k e)
 
@@ -88,7 +91,7 @@ module _ (s : Scene) where
   unfolding kings.shortOf kings.longOf
   castled-rook n h = ⊎-elim (λ x. (short, rook-there n _ _ _ (right _ _ x))) (λ x. (long, rook-there n _ _ _ (right _ _ x))) (either _ _ h)
 
-module _ (s : Scene) (m : Manned s) where
+module _ (s : View) (m : Manned s) where
   -- how many men of a kind there are, and how many of them check; the steppers and the officers that check
   abbrev of : Piece → ℕ
   of k = size (kindSet (s .men) k)
@@ -105,7 +108,7 @@ module _ (s : Scene) (m : Manned s) where
 
   -- the steppers are among the fifteen
   stepper-other : (k : ℕ) → k < 64 → has (steppers s) k ≡ true → other s k ≡ true
-  stepper-other k l e = ⊎-elim (λ x. flag-is (other s k) (omega (arith, ap flag x, m .one-kind k l))) (last-other s k l) (or-of (pawns.pawnsOf s) (lastMen s) k e)
+  stepper-other k l e = ⊎-elim (λ x. flag-is (other s k) (omega (arith, ap flag x, m .one-kind k l))) (last-other s k l) (or-of (passants.pawnsOf s) (lastMen s) k e)
 
   all-steppers : size (steppers s) ≤ 15
   all-steppers = le-trans (count-mono 64 (has (steppers s)) (other s) stepper-other) (m .fifteen)
@@ -127,15 +130,15 @@ module _ (s : Scene) (m : Manned s) where
           out x =
               ⊎-elim (λ y. omega (arith, ap flag e, ap flag y, m .one-kind r l, flag-lt (other s r)))
               (λ y. true≢false (sym (on-last s r y) ∙ has-setOf (λ j. eqb (rank j) (ownRank (s .color) 7)) r l ∙ rookTo-home s (s .color) d .1))
-              (or-of (pawns.pawnsOf s) (lastMen s) r x)
+              (or-of (passants.pawnsOf s) (lastMen s) r x)
 
   -- where no checker is a pawn or on the last rank, none of the officers that check is a stepper
   module _ (h : pawns.checkingOf s ≡ 0) where
     no-stepper : (k : ℕ) → has (s .checkers) k ≡ true → has (steppers s) k ≡ true → ⊥
-    no-stepper k c x = true≢false (sym (both c there) ∙ disjoint-at (s .checkers) (bitOr (pawns.pawnsOf s) (pawns.lastRank s)) h k)
+    no-stepper k c x = true≢false (sym (both c there) ∙ disjoint-at (s .checkers) (bitOr (passants.pawnsOf s) (pawns.lastRank s)) h k)
       where
-        there : has (bitOr (pawns.pawnsOf s) (pawns.lastRank s)) k ≡ true
-        there = has-or (pawns.pawnsOf s) (pawns.lastRank s) k ∙ ⊎-elim (λ y. or-left _ y) (λ y. or-right _ (on-last s k y)) (or-of (pawns.pawnsOf s) (lastMen s) k x)
+        there : has (bitOr (passants.pawnsOf s) (pawns.lastRank s)) k ≡ true
+        there = has-or (passants.pawnsOf s) (pawns.lastRank s) k ∙ ⊎-elim (λ y. or-left _ y) (λ y. or-right _ (on-last s k y)) (or-of (passants.pawnsOf s) (lastMen s) k x)
 
     abbrev weight : ℕ → ℕ
     weight k =
@@ -145,7 +148,7 @@ module _ (s : Scene) (m : Manned s) where
     at : (k : ℕ) → k < 64 → weight k ≤ flag (other s k)
     at k l = ⊎-elim yes no (cases (has (s .checkers) k))
       where
-        man : (i : ℕ) → flag (has (checkersOf s i) k) ≤ flag (has (officers.menOf s i) k)
+        man : (i : ℕ) → flag (has (checkersOf s i) k) ≤ flag (has (officers.kindMen s i) k)
         man i = flag-le _ _ (checkers-in s i k)
 
         yes : has (s .checkers) k ≡ true → weight k ≤ flag (other s k)
@@ -168,7 +171,7 @@ module _ (s : Scene) (m : Manned s) where
   checking-le k = size-left (s .checkers) (officers.freeOf s (kindPlace k))
 
   pawns-le : size (pawns.checkingOf s) ≤ size (s .checkers)
-  pawns-le = size-left (s .checkers) (bitOr (pawns.pawnsOf s) (pawns.lastRank s))
+  pawns-le = size-left (s .checkers) (bitOr (passants.pawnsOf s) (pawns.lastRank s))
 
   none-check : size (s .checkers) ≡ 0 → Candidates (pawns.candidateRetractors s 0)
   unfolding pawns.candidateRetractors _and_
@@ -214,14 +217,14 @@ module _ (s : Scene) (m : Manned s) where
   state-whole None = checkers-whole
 
   -- the ported list
-  pub listed-whole : AtMost 47 (listedOf s)
-  unfolding listedOf
+  pub listed-whole : AtMost 47 (listOf s)
+  unfolding listOf
   listed-whole = state-whole (s .passant)
 
   -- a list of the limited test
-  pub officers-whole : AtMost 18 (officersOf s)
-  unfolding officersOf officers.officerOf
-  officers-whole =
+  pub pawnless-whole : AtMost 18 (allButPawns s)
+  unfolding allButPawns officers.officerOf
+  pawnless-whole =
       most-le _ 18 _ (omega (arith, flag-lt (castled s 0), kinds-sum))
       (most-both _ _ _ _ (most-both _ _ _ _ (most-both _ _ _ _ (most-both _ _ _ _ (calm Knight) (calm Bishop)) (calm Rook)) (calm Queen)) (king-length s 0))
     where

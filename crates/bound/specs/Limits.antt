@@ -6,10 +6,9 @@ use lib.ListN.{length}
 use Rattle.squares.specs.Squares.{size}
 use Rattle.geometry.specs.declared.Color.{Color}
 use Rattle.geometry.specs.Colors.{opp}
-use Rattle.laws.specs.declared.EnPassantFlag.the-variants.{Any}
 use Rattle.laws.specs.Boards.{colorSet, Shaped}
-use Rattle.accept.specs.Verdicts.{verdictNumber}
-use Rattle.accept.specs.Said.{firstFailing}
+use Rattle.refusal.specs.Refusals.{verdictNumber}
+use Rattle.refusal.specs.Said.{firstFailing}
 use Rattle.board.specs.declared.RetractableBoard.{RetractableBoard}
 use Rattle.board.specs.Gate.{toLaws, boardTests}
 use Rattle.retraction_gen.specs.declared.Made.{Made}
@@ -27,20 +26,6 @@ limit = 16
 -- "the ported list never needs a 48th entry", on any accepted board whose retractor has at most n men
 abbrev pub Enough : ℕ → Type 0
 Enough n = (b : RetractableBoard) → Shaped (toLaws b) → firstFailing (boardTests b) ≡ 0 → men b (opp (b .turn)) ≤ n → length (listOn b) ≤ 47
-
--- "a turned board": `flip` (board.rs, 306 to 313) turns it, makes its state unknown, and leaves its checkers and pins stale
-abbrev pub turned : RetractableBoard → RetractableBoard
-turned b = record {
-  pieces = b .pieces;
-  colors = b .colors;
-  combined = b .combined;
-  turn = opp (b .turn);
-  white = b .white;
-  black = b .black;
-  pinned = b .pinned;
-  checkers = b .checkers;
-  passant = Any;
-}
 
 -- a text that is read as an accepted board, whose retractor has n men and whose list has m entries
 abbrev pub Needs : String → ℕ → ℕ → Type 0

@@ -6,25 +6,26 @@ use Rattle.squares.specs.Tests.{_or_}
 use Rattle.squares.specs.Squares.{flag, size}
 use Rattle.laws.specs.declared.Piece.the-variants.{Knight, Bishop, Rook, Queen}
 use Rattle.laws.specs.Men.{kindPlace}
-use Rattle.scene.specs.declared.Scene.{Scene}
-use Rattle.officers.specs.Officers.{menOf, freeOf}
-use Rattle.pawns.specs.Pawns.{pawnsOf, candidateRetractors}
+use Rattle.view.specs.declared.View.{View}
+use Rattle.officers.specs.Officers.{kindMen, freeOf}
+use Rattle.un_en_passant.specs.UnEnPassants.{pawnsOf}
+use Rattle.pawns.specs.Pawns.{candidateRetractors}
 use Rattle.kings.specs.Kings.{shortOf, longOf}
 
 -- the checkers of a kind, by its place among the six: `checkers & pieces & !castling_rooks`
-abbrev pub checkersOf : Scene → ℕ → ℕ
+abbrev pub checkersOf : View → ℕ → ℕ
 checkersOf s k = bitAnd (s .checkers) (freeOf s k)
 
 -- knights, bishops, rooks and queens: an entry for each, and a second for one that checks
-abbrev pub officerEntries : Scene → ℕ → ℕ
-officerEntries s k = size (menOf s k) + size (checkersOf s k)
+abbrev pub officerEntries : View → ℕ → ℕ
+officerEntries s k = size (kindMen s k) + size (checkersOf s k)
 
 -- an un-castling passes its tests
-abbrev pub castled : Scene → ℕ → Bool
+abbrev pub castled : View → ℕ → Bool
 castled s n = shortOf s n or longOf s n
 
 -- the most entries that the list can have with n checkers, section by section
-abbrev pub entriesOf : Scene → ℕ → ℕ
+abbrev pub entriesOf : View → ℕ → ℕ
 entriesOf s n =
     -- an un-push and an uncapture for each pawn and each man on the last rank, but those that the checkers rule out
     2 * size (candidateRetractors s n)

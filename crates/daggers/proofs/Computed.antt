@@ -4,26 +4,27 @@ use mathlib.Core.Bool.{false}
 use mathlib.Core.List.{[], _∷_}
 use Rattle.squares.specs.Tests.{_and_, _or_}
 use Rattle.squares.specs.Squares.{has, upTo, countTo, allTo, anyTo}
-use Rattle.squares.specs.Members.{listTo, members, firstOf, forEach, concat}
+use Rattle.squares.specs.Members.{listTo, members, lowestOf, firstOf, forEach, concat}
 use Rattle.geometry.specs.Lines.{sameRank, sameFile, sameDiagonal, straight, diagonal, between, betweenOf, line, clear}
 use Rattle.geometry.specs.Steps.{knightStep, kingStep, pawnTakes}
 use Rattle.laws.specs.Boards.{menAt, kindSets, colorSets}
-use Rattle.roll.specs.declared.UnCaptureKind.the-variants.{Optional, Necessary, Forbidden, UnEnPassant}
-use Rattle.roll.specs.Roll.{entryOf, offered, captureKind}
-use Rattle.scene.specs.Chess.{adjacentFiles, backOf}
-use Rattle.scene.specs.Scenes.{castlingRooks, within, sceneOf}
-use Rattle.enumerate.specs.Lists.{lesserOf, kindsOf, byCheckers, namedOf, listedOf, listOf}
-use Rattle.placement.specs.Letters.{numberOf, widthOf, placeOf, manOf, menOf}
-use Rattle.placement.specs.Placement.{runText, squaresFrom, ranksText, menText}
+use Rattle.retraction_list.specs.declared.UnCaptureKind.the-variants.{Optional, Necessary, Forbidden, UnEnPassant}
+use Rattle.retraction_list.specs.Entries.{entryOf, offered, captureKind}
+use Rattle.geometry.specs.Chess.{adjacentFiles}
+use Rattle.geometry.specs.Colors.{backOf}
+use Rattle.view.specs.Views.{castlingRooks, within, viewOf}
+use Rattle.enumerate.specs.Lists.{lesserOf, kindsOf, byCheckers, namedOf, listOf}
+use Rattle.men_field.specs.inner.Letters.{numberByLetter, widthOf, placeOf, manByNumber, menByNumbers}
+use Rattle.men_field.specs.Placement.{runText, squaresFrom, ranksText, menText}
 use Rattle.text.specs.Form.{printOf}
-use Rattle.text.specs.Reading.{rightOf, squareOf, stepMen, stepTail, stepOf, runOf}
+use Rattle.text.specs.inner.Reading.{rightOf, squareOf, stepMen, stepTail, stepOf, runOf}
 use Rattle.retraction_gen.specs.Making.{listOn}
 use Rattle.daggers.specs.Names.{square}
 use Rattle.daggers.specs.Table.{OnText}
 use Rattle.daggers.proofs.Texts.{on-text}
 use Rattle.officers.specs.Officers as officers
 use Rattle.pawns.specs.Pawns as pawns
-use Rattle.passants.specs.Passants as passants
+use Rattle.un_en_passant.specs.UnEnPassants as passants
 use Rattle.kings.specs.Kings as kings
 
 pub computed :
@@ -31,5 +32,5 @@ pub computed :
     (λ b. listOn b ≡ entryOf (square "e1") 0x1010ef Optional false ∷ entryOf (square "e4") 0x1000000000 Optional false ∷ entryOf (square "e4") 0x2828380000 Necessary false ∷ [])
     × OnText "8/4k3/3P4/8/8/8/8/4R2K b - -" (λ b. listOn b ≡ entryOf (square "d6") 0x1000000000 Necessary false ∷ entryOf (square "d6") 0x1400000000 UnEnPassant false ∷ [])
     × OnText "4k3/8/8/8/3pP3/8/8/4K3 b - e4" (λ b. listOn b ≡ entryOf (square "e4") 0x1000 Forbidden false ∷ [])
-unfolding numberOf widthOf placeOf manOf menOf runText squaresFrom ranksText menText printOf rightOf squareOf stepMen stepTail stepOf runOf listOn menAt kindSets colorSets has upTo countTo allTo anyTo listTo members firstOf forEach concat sameRank sameFile sameDiagonal straight diagonal between betweenOf line clear knightStep kingStep pawnTakes offered captureKind adjacentFiles backOf castlingRooks within sceneOf officers.movesOf officers.stepsOf officers.quietOf officers.freeOf officers.fromOf officers.eachOf officers.calmOf officers.aloneAt officers.aloneOf officers.ontoOf officers.bothAt officers.bothOf officers.officerOf pawns.candidateRetractors pawns.otherRayOf pawns.doubledOf pawns.crossedOf pawns.vacantOf pawns.homeOf pawns.unpushOf pawns.uncaptureOf pawns.fromOf pawns.stepsOf passants.besideReborn passants.underOne passants.raysOf passants.oneOfTwo passants.twoOthers passants.underTwo passants.underOf passants.passantAt passants.passantOf passants.pawnOf kings.farOf kings.nearOf kings.attackedOf kings.stepsOf kings.steppedOf kings.safeOf kings.castledOf kings.shortOf kings.longOf kings.uncastledOf kings.kingOf lesserOf kindsOf byCheckers namedOf listedOf listOf _and_ _or_
+unfolding numberByLetter widthOf placeOf manByNumber menByNumbers runText squaresFrom ranksText menText printOf rightOf squareOf stepMen stepTail stepOf runOf listOn menAt kindSets colorSets has upTo countTo allTo anyTo listTo members lowestOf firstOf forEach concat sameRank sameFile sameDiagonal straight diagonal between betweenOf line clear knightStep kingStep pawnTakes offered captureKind adjacentFiles backOf castlingRooks within viewOf officers.movesOf officers.stepsOf officers.quietOf officers.freeOf officers.fromOf officers.eachOf officers.calmOf officers.aloneAt officers.aloneOf officers.ontoOf officers.bothAt officers.bothOf officers.officerOf pawns.candidateRetractors pawns.otherRayOf pawns.doubledOf pawns.crossedOf pawns.homeOf pawns.unpushOf pawns.uncaptureOf pawns.fromOf pawns.stepsOf passants.vacantOf passants.besideReborn passants.underOne passants.raysOf passants.oneOfTwo passants.twoOthers passants.underTwo passants.underOf passants.passantAt passants.passantOf passants.unEnPassantsOf pawns.pawnOf kings.farOf kings.nearOf kings.attackedOf kings.stepsOf kings.steppedOf kings.safeOf kings.castledOf kings.shortOf kings.longOf kings.uncastledOf kings.kingOf lesserOf kindsOf byCheckers namedOf listOf _and_ _or_
 computed = (on-text _ refl refl _ refl, on-text _ refl refl _ refl, on-text _ refl refl _ refl)

@@ -16,13 +16,13 @@ use Rattle.laws.specs.Souls.{number}
 use Rattle.laws.specs.Retractions.{packed, unpacked}
 use Rattle.laws.specs.Acceptance.{accepted}
 use Rattle.laws.specs.Strictness.{strict}
-use Rattle.laws.specs.StrictLists.{placed}
+use Rattle.laws.specs.StrictLists.{retractionAt}
 use Rattle.laws.specs.Boards.{menAt, kindSets, colorSets}
 use Rattle.board.specs.Gate.{menOn, posOn}
-use Rattle.placement.specs.Letters.{numberOf, widthOf, placeOf, manOf, menOf}
-use Rattle.placement.specs.Placement.{runText, squaresFrom, ranksText, menText}
+use Rattle.men_field.specs.inner.Letters.{numberByLetter, widthOf, placeOf, manByNumber, menByNumbers}
+use Rattle.men_field.specs.Placement.{runText, squaresFrom, ranksText, menText}
 use Rattle.text.specs.Form.{printOf, printed}
-use Rattle.text.specs.Reading.{rightOf, squareOf, stepMen, stepTail, stepOf, runOf}
+use Rattle.text.specs.inner.Reading.{rightOf, squareOf, stepMen, stepTail, stepOf, runOf}
 use Rattle.daggers.specs.Names.{bytes, square, named}
 use Rattle.daggers.specs.Table.{Line, isStrict, notStrict, hasBetween, hasSouls, packs, Says, Say, table}
 use Rattle.squares.proofs.Testing.{left, right}
@@ -35,7 +35,7 @@ abbrev Holds : Line → Type 0
 Holds (isStrict t r) = (printed (fieldsIn t) ≡ bytes t) × (accepted (posOn (boardIn t)) ≡ true) × (strict (posOn (boardIn t)) r ≡ true)
 Holds (notStrict t s e) =
     (printed (fieldsIn t) ≡ bytes t) × (accepted (posOn (boardIn t)) ≡ true)
-    × (allTo 12 (λ j. not (strict (posOn (boardIn t)) (placed (square s * 768 + (square e * 12 + j))))) ≡ true)
+    × (allTo 12 (λ j. not (strict (posOn (boardIn t)) (retractionAt (square s * 768 + (square e * 12 + j))))) ≡ true)
 Holds (hasBetween a b ks) = (ltb (square a) 64 ≡ true) × (ltb (square b) 64 ≡ true) × (betweenOf (square a) (square b) ≡ setOf (named ks))
 Holds (hasSouls w n) = (t : String) × (everyKind (λ k. eqb (number (menOn (boardIn t)) White k) (w k)) ≡ true) × (w Bishop ≡ 0) × (soulsBy w ≡ n)
 Holds (packs r n) =
@@ -70,7 +70,7 @@ a & b = (a, b)
 
 -- the reader, the printer, the Laws and the geometry, computed on each line
 table-holds : Hold table
-unfolding table has upTo countTo allTo anyTo sameRank sameFile sameDiagonal straight diagonal between betweenOf clear knightStep kingStep pawnStep pawnDouble pawnTakes _and_ _or_ menAt kindSets colorSets numberOf widthOf placeOf manOf menOf runText squaresFrom ranksText menText printOf rightOf squareOf stepMen stepTail stepOf runOf
+unfolding table has upTo countTo allTo anyTo sameRank sameFile sameDiagonal straight diagonal between betweenOf clear knightStep kingStep pawnStep pawnDouble pawnTakes _and_ _or_ menAt kindSets colorSets numberByLetter widthOf placeOf manByNumber menByNumbers runText squaresFrom ranksText menText printOf rightOf squareOf stepMen stepTail stepOf runOf
 table-holds =
     (refl, refl, refl) & (refl, refl, refl) & (refl, refl, refl) & (refl, refl, refl) & (refl, refl, refl)
     & (refl, refl, refl) & (refl, refl, refl)

@@ -10,16 +10,18 @@ use Rattle.squares.specs.Squares.{flag, allTo}
 use Rattle.laws.specs.declared.ChessRetraction.{ChessRetraction}
 use Rattle.laws.specs.Acceptance.{accepted}
 use Rattle.laws.specs.Strictness.{strict}
-use Rattle.laws.specs.StrictLists.{placed}
-use Rattle.accept.specs.declared.Verdict.{Verdict}
-use Rattle.accept.specs.declared.Verdict.the-variants.{Accepted}
+use Rattle.laws.specs.StrictLists.{retractionAt, In}
+use Rattle.refusal.specs.declared.Verdict.{Verdict}
+use Rattle.refusal.specs.declared.Verdict.the-variants.{Accepted}
 use Rattle.board.specs.declared.RetractableBoard.{RetractableBoard}
 use Rattle.board.specs.declared.Boarded.{Boarded}
 use Rattle.board.specs.Gate.{posOn, gateOf, boardedBy}
-use Rattle.strict.specs.Demand.{Among, IsStrictList}
-use Rattle.text.specs.Form.{Fields, printed, Says, fieldsOf}
-use Rattle.text.specs.Reading.{startOf, runOf, rawOf}
-use Rattle.text.specs.Entries.{fieldBoard, Reads}
+use Rattle.strict.specs.Demand.{IsStrictList}
+use Rattle.laws.specs.declared.Position.{Position}
+use Rattle.text.specs.Form.{printed, Says}
+use Rattle.text.specs.inner.Reading.{startOf, runOf, rawOf}
+use Rattle.board.specs.Answers.{workedOf}
+use Rattle.text.specs.Entries.{Reads}
 use Rattle.daggers.specs.Names.{bytes}
 use Rattle.daggers.specs.Table.{OnText, StrictOf}
 use Rattle.squares.proofs.Testing.{both, failed}
@@ -32,11 +34,11 @@ use Rattle.text.proofs.RoundTrip.{read-said}
 use Rattle.strict.proofs.Told.{gate-by, strict-past}
 
 -- what the reader's walk reads, and the board of it
-abbrev pub fieldsIn : String → Fields
-fieldsIn t = fieldsOf (rawOf (runOf startOf (bytes t)))
+abbrev pub fieldsIn : String → Position
+fieldsIn t = rawOf (runOf startOf (bytes t)) .position
 
 abbrev pub boardIn : String → RetractableBoard
-boardIn t = fieldBoard (fieldsIn t)
+boardIn t = workedOf (fieldsIn t)
 
 -- a text that the printer gives back, of an accepted position
 module _ (t : String) (prints : printed (fieldsIn t) ≡ bytes t) (lawful : accepted (posOn (boardIn t)) ≡ true) where
@@ -61,17 +63,17 @@ module _ (t : String) (prints : printed (fieldsIn t) ≡ bytes t) (lawful : acce
   strict-of : (P : List ChessRetraction → Type 0) → ((l : List ChessRetraction) → IsStrictList (boardIn t) l → P l) → StrictOf t P
   strict-of P g = on-text _ λ s after a x. g (x .moves) (x .exact gate)
 
-  pub is-strict : (r : ChessRetraction) → strict (posOn (boardIn t)) r ≡ true → StrictOf t (λ l. Among r l)
+  pub is-strict : (r : ChessRetraction) → strict (posOn (boardIn t)) r ≡ true → StrictOf t (λ l. In r l)
   is-strict r e = strict-of _ λ l z. z .members r .1 (strict-past (boardIn t) gate r .0 e)
 
   -- from s to e there are twelve retractions, by the uncaptured man and the mark
-  pub not-strict : (s e : ℕ) → allTo 12 (λ j. not (strict (posOn (boardIn t)) (placed (s * 768 + (e * 12 + j))))) ≡ true
-      → StrictOf t (λ l. (r : ChessRetraction) → r .source ≡ s → r .target ≡ e → Among r l → ⊥)
+  pub not-strict : (s e : ℕ) → allTo 12 (λ j. not (strict (posOn (boardIn t)) (retractionAt (s * 768 + (e * 12 + j))))) ≡ true
+      → StrictOf t (λ l. (r : ChessRetraction) → r .source ≡ s → r .target ≡ e → In r l → ⊥)
   not-strict s e none = strict-of _ λ l z r p q a. never r p q (strict-past (boardIn t) gate r .1 (z .members r .0 a))
     where
       never : (r : ChessRetraction) → r .source ≡ s → r .target ≡ e → strict (posOn (boardIn t)) r ≡ true → ⊥
       never r p q h =
           let j = r .uncaptured * 2 + flag (r .unpromotion) in
           let i = strict-in (posOn (boardIn t)) r h in
-          failed _ (all-at 12 (λ j. not (strict (posOn (boardIn t)) (placed (s * 768 + (e * 12 + j))))) none j (omega (arith, i .uncaptured-in, flag-lt (r .unpromotion))))
-          (ap (strict (posOn (boardIn t))) (ap₂ (λ (x y : ℕ). placed (x * 768 + (y * 12 + j))) (sym p) (sym q) ∙ placed-place r i) ∙ h)
+          failed _ (all-at 12 (λ j. not (strict (posOn (boardIn t)) (retractionAt (s * 768 + (e * 12 + j))))) none j (omega (arith, i .uncaptured-in, flag-lt (r .unpromotion))))
+          (ap (strict (posOn (boardIn t))) (ap₂ (λ (x y : ℕ). retractionAt (x * 768 + (y * 12 + j))) (sym p) (sym q) ∙ placed-place r i) ∙ h)

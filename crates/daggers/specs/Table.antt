@@ -14,11 +14,12 @@ use Rattle.laws.specs.declared.ChessRetraction.{ChessRetraction}
 use Rattle.laws.specs.Men.{Men, kindNumber}
 use Rattle.laws.specs.Souls.{number, souls}
 use Rattle.laws.specs.Retractions.{packed, unpacked, InRange}
-use Rattle.accept.specs.declared.Verdict.the-variants.{Accepted}
+use Rattle.laws.specs.StrictLists.{In}
+use Rattle.refusal.specs.declared.Verdict.the-variants.{Accepted}
 use Rattle.board.specs.declared.RetractableBoard.{RetractableBoard}
 use Rattle.board.specs.declared.Boarded.{Boarded}
-use Rattle.listing.specs.declared.Listed.{Listed}
-use Rattle.strict.specs.Demand.{Among, Lists}
+use Rattle.slots.specs.declared.Listed.{Listed}
+use Rattle.strict.specs.Demand.{Lists}
 use Rattle.text.specs.Entries.{Reads}
 use Rattle.daggers.specs.Names.{bytes, square, named, back}
 
@@ -58,8 +59,8 @@ Alone m c w = (k : Piece) → number m c k ≡ w k
 -- `souls` answers: some men are w alone, and of all men that are, wherever they stand and of either colour. Packing: `pack` takes r and
 -- answers n, and `unpack` of n answers r.
 abbrev pub Says : Line → Type 0
-Says (isStrict t r) = StrictOf t (λ l. Among r l)
-Says (notStrict t s e) = StrictOf t (λ l. (r : ChessRetraction) → r .source ≡ square s → r .target ≡ square e → Among r l → ⊥)
+Says (isStrict t r) = StrictOf t (λ l. In r l)
+Says (notStrict t s e) = StrictOf t (λ l. (r : ChessRetraction) → r .source ≡ square s → r .target ≡ square e → In r l → ⊥)
 Says (hasBetween a b ks) = (t : List ℕ) → IsBetween t → getD t (square a * 64 + square b) 0 ≡ setOf (named ks)
 Says (hasSouls w n) = ((m : Men) × Alone m White w) × ((m : Men) (c : Color) → Alone m c w → souls m c ≡ n)
 Says (packs r n) = InRange r × (packed r ≡ n) × (unpacked n ≡ r)

@@ -8,9 +8,9 @@ use lib.Dec.{eqb, ltb}
 use lib.ListN.{length, getD, set, length-set, List·getD-eq-default}
 use lib.Seq.{paste}
 use borrow.Author.Tests.{lt-ltb, le-ltb, eq-eqb, ne-eqb}
-use Rattle.accept.specs.declared.Refusal.{Refusal}
-use Rattle.accept.specs.declared.Verdict.the-variants.{Accepted, Refused}
-use Rattle.accept.specs.Said.{numberSaid, told, behind}
+use Rattle.refusal.specs.declared.Refusal.{Refusal}
+use Rattle.refusal.specs.declared.Verdict.the-variants.{Accepted, Refused}
+use Rattle.refusal.specs.Said.{numberSaid, told, behind}
 use Rattle.board.specs.declared.RetractableBoard.{RetractableBoard}
 use Rattle.board.specs.declared.Boarded.{Boarded}
 use Rattle.board.specs.Gate.{boardTests}
@@ -23,8 +23,8 @@ use Rattle.desks.specs.Desks.{free, held, lowest, put, fetch, drop, refu
 use Rattle.place.specs.Words.{boardRead, wordsOf, wordsAt}
 use Rattle.desks.specs.Layout.{base, boardAt, markAt, placeAt, placesFrom, room}
 use Rattle.desks.specs.Calls.{placedAnswer, toldAnswer, fetchedAnswer, cleared, SetsUp}
-use Rattle.desks.specs.Within.{AnswersAt}
-use Rattle.accept.proofs.Saying.{saidBy, behind-by}
+use Rattle.desks.specs.inner.Within.{AnswersAt}
+use Rattle.refusal.proofs.Saying.{saidBy, behind-by}
 use Rattle.desks.proofs.Pasting.{places-length, places-at}
 
 module _ (s : List ℕ) (p n : ℕ) where

@@ -8,7 +8,7 @@ use lib.Dec.{eqb}
 use lib.ListN.{length, getD, set, replicate, length-set}
 use lib.Seq.{getD-set-same, getD-set-other}
 use borrow.Author.Tests.{eqb-true, eqb-false}
-use Rattle.accept.specs.Said.{numberSaid}
+use Rattle.refusal.specs.Said.{numberSaid}
 use Rattle.desks.specs.declared.Why.the-variants.{Quota}
 use Rattle.desks.specs.Desks.{free, held, fresh, Answer, grants, refuses}
 use Rattle.desks.specs.Layout.{base, markAt, boardAt, placeAt, placesFrom, room, fits, tableOf}

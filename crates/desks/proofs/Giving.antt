@@ -13,7 +13,7 @@ use Rattle.geometry.specs.declared.Color.the-variants.{White, Black}
 use Rattle.laws.specs.declared.Piece.{Piece}
 use Rattle.laws.specs.declared.Piece.the-variants.{Pawn, Knight, Bishop, Rook, Queen, King}
 use Rattle.laws.specs.Boards.{kindSet, colorSet, Shaped}
-use Rattle.accept.specs.Said.{firstFailing, Said, says, numberSaid, told, behind}
+use Rattle.refusal.specs.Said.{firstFailing, Said, says, numberSaid, told, behind}
 use Rattle.board.specs.declared.RetractableBoard.{RetractableBoard}
 use Rattle.board.specs.Gate.{toLaws, boardTests, noBoard}
 use Rattle.desks.specs.declared.Why.{Why}
@@ -24,7 +24,7 @@ use Rattle.desks.specs.Desks.{Place, free, held, lowest, Found, put, fet
 use Rattle.place.specs.Words.{wordsAt, boardRead}
 use Rattle.desks.specs.Layout.{base, boardAt, markAt, placeAt, placesFrom, tableOf}
 use Rattle.desks.specs.Calls.{valueSaid}
-use Rattle.desks.specs.Within.{standOf}
+use Rattle.desks.specs.inner.Within.{standOf}
 use Rattle.desks.specs.Runs.{FetchesAccepted, KeepsBoards}
 use Rattle.desks.proofs.Standing.{some-why, metBy, stand-met}
 use Rattle.desks.proofs.Leaving.{leaves}

@@ -9,7 +9,7 @@ use lib.ListN.{length, getD, set, length-set, List·getD-eq-default}
 use lib.Seq.{paste, set-out, set-getD, getD-set-same}
 use borrow.Author.Tests.{eqb-true, leb-true, leb-false, ltb-true, ltb-false}
 use Rattle.laws.specs.Boards.{Shaped}
-use Rattle.accept.specs.Said.{firstFailing, says, numberSaid}
+use Rattle.refusal.specs.Said.{firstFailing, says, numberSaid}
 use Rattle.board.specs.declared.RetractableBoard.{RetractableBoard}
 use Rattle.board.specs.Gate.{toLaws, boardTests, noBoard}
 use Rattle.desks.specs.declared.Why.the-variants.{Quota}

@@ -5,8 +5,8 @@ use mathlib.Core.List.{List, [], _∷_}
 use Prim.Native.Nat.{ℕ, _+_}
 use lib.Dec.{eqb}
 use lib.ListN.{getD, set}
-use Rattle.accept.specs.declared.Refusal.the-variants.{Men as men, Kings as kings, Pawn as pawn, Rights as rights, Passant as passant, Check as check, Stale as stale, Full as full, Source as source, Target as target, Held as held, Step as step, Room as room, Text as text}
-use Rattle.accept.specs.Said.{numberSaid}
+use Rattle.refusal.specs.declared.Refusal.the-variants.{Men as men, Kings as kings, Pawn as pawn, Rights as rights, Passant as passant, Check as check, Stale as stale, Full as full, Source as source, Target as target, Held as held, Step as step, Room as room, Text as text}
+use Rattle.refusal.specs.Said.{numberSaid}
 use Rattle.desks.specs.declared.Why.{Why}
 use Rattle.desks.specs.declared.Why.the-variants.{Board, Desk, Quota, Absent}
 use Rattle.desks.specs.declared.Placed.{Placed}

@@ -7,10 +7,10 @@ use native.Mathlib.Omega.{arith}
 use lib.Dec.{eqb, ltb}
 use lib.ListN.{length}
 use borrow.Author.Tests.{lt-ltb, ltb-false}
-use Rattle.accept.specs.declared.Verdict.{Verdict}
-use Rattle.accept.specs.declared.Verdict.the-variants.{Accepted, Refused}
-use Rattle.accept.specs.Verdicts.{verdictNumber}
-use Rattle.accept.specs.Said.{firstFailing}
+use Rattle.refusal.specs.declared.Verdict.{Verdict}
+use Rattle.refusal.specs.declared.Verdict.the-variants.{Accepted, Refused}
+use Rattle.refusal.specs.Refusals.{verdictNumber}
+use Rattle.refusal.specs.Said.{firstFailing}
 use Rattle.desks.specs.declared.Why.{Why}
 use Rattle.desks.specs.declared.Why.the-variants.{Board, Desk, Quota, Absent}
 use Rattle.desks.specs.declared.Stand.{Stand}
@@ -18,8 +18,8 @@ use Rattle.desks.specs.declared.Stand.the-variants.{At, Refused as noSta
 use Rattle.desks.specs.Desks.{whyNumber, Ask, Answer, refuses, Met, none, places, Found, unfit, table, metAt, answerMet, answerIn, testsFirst, answerOf}
 use Rattle.desks.specs.Layout.{base, quotaAt, fits, placesFrom, tableOf}
 use Rattle.desks.specs.Calls.{firstOf, leftBy, Answers}
-use Rattle.desks.specs.Within.{AnswersAt, standOf, standBehind}
-use Rattle.accept.proofs.Saying.{some-number}
+use Rattle.desks.specs.inner.Within.{AnswersAt, standOf, standBehind}
+use Rattle.refusal.proofs.Saying.{some-number}
 use Rattle.desks.proofs.Room.{fit-room}
 
 -- no number of refusal is 0

@@ -6,7 +6,7 @@ use Prim.Native.Nat.{ℕ, zero, suc, _+_}
 use lib.Dec.{eqb}
 use lib.ListN.{length, set}
 use lib.Seq.{paste}
-use Rattle.accept.specs.Said.{Said, says, numberSaid}
+use Rattle.refusal.specs.Said.{Said, says, numberSaid}
 use Rattle.desks.specs.declared.Why.the-variants.{Quota}
 use Rattle.desks.specs.declared.Placed.{Placed}
 use Rattle.desks.specs.declared.Placed.the-variants.{Number, Refused as notPlaced}

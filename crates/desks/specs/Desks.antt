@@ -4,8 +4,8 @@ use mathlib.Core.List.{List, [], _∷_}
 use Prim.Native.Nat.{ℕ, zero, suc}
 use lib.Dec.{eqb, ltb}
 use lib.ListN.{length, getD, set, replicate}
-use Rattle.accept.specs.Verdicts.{numberOf}
-use Rattle.accept.specs.Said.{Test, firstFailing, Said, says, told, behind}
+use Rattle.refusal.specs.Refusals.{numberOf}
+use Rattle.refusal.specs.Said.{Test, firstFailing, Said, says, told, behind}
 use Rattle.board.specs.declared.RetractableBoard.{RetractableBoard}
 use Rattle.board.specs.Gate.{boardTests, noBoard}
 use Rattle.board.specs.Said.{keptBehind}

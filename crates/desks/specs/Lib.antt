@@ -1,5 +1,5 @@
 pub mod Desks
 pub mod Layout
 pub mod Calls
-pub mod Within
 pub mod Runs
+pub mod inner

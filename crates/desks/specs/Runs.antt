@@ -6,7 +6,7 @@ use Prim.Native.Nat.{ℕ, zero, suc, _^_, _<_}
 use lib.Dec.{eqb}
 use lib.ListN.{getD}
 use Rattle.laws.specs.Boards.{Shaped}
-use Rattle.accept.specs.Said.{firstFailing, numberSaid, told}
+use Rattle.refusal.specs.Said.{firstFailing, numberSaid, told}
 use Rattle.board.specs.declared.RetractableBoard.{RetractableBoard}
 use Rattle.board.specs.Gate.{toLaws, boardTests}
 use Rattle.desks.specs.Desks.{Ask, put, fetch, drop, Answer, grants, answerOf}

@@ -4,15 +4,15 @@ use super::Placed;
 use super::Stand;
 use super::Told;
 use super::Why;
-use accept::Verdict;
 use board::RetractableBoard;
+use refusal::Verdict;
 ghost use mathlib.Core.Path.{_≡_};
 ghost use Prim.Native.Nat.{_+_, _*_, _≤_};
 ghost use lib.ListN.{length};
 ghost use Rattle.desks.specs.Desks.{put, fetch, drop, held, fetchedFrom, refuses, lowest};
 ghost use Rattle.desks.specs.Layout.{base, room, fits, placesFrom};
 ghost use Rattle.desks.specs.Calls.{placedAnswer, toldAnswer, fetchedAnswer, cleared};
-ghost use Rattle.desks.specs.Within.{standOf, standBehind, AnswersAt};
+ghost use Rattle.desks.specs.inner.Within.{standOf, standBehind, AnswersAt};
 
 // Words before the places, and words of a place.
 const HEAD: usize = 2;

@@ -1,6 +1,6 @@
 // The study table: boards under study of two desks, kept in one lent slice of words. docs/STUDY_TABLE.md has its layout.
-use accept::Refusal;
 use board::RetractableBoard;
+use refusal::Refusal;
 ghost use mathlib.Core.Path.{_≡_};
 ghost use Rattle.desks.specs.Desks.{whyNumber, put, fetch, drop};
 ghost use Rattle.desks.specs.Calls.{placedAnswer, toldAnswer, fetchedAnswer, Answers, SetsUp};
@@ -43,7 +43,7 @@ pub fn number(why: Why) -> u8
     ensures { λ n. ⌜ n ≡ whyNumber why ⌝ }
 {
     match why {
-        Why::Board(r) => accept::number(r),
+        Why::Board(r) => refusal::number(r),
         Why::Desk => 20,
         Why::Quota => 21,
         Why::Absent => 22,

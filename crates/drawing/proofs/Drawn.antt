@@ -14,9 +14,9 @@ use Rattle.geometry.specs.declared.Color.the-variants.{White, Black}
 use Rattle.laws.specs.declared.Piece.{Piece}
 use Rattle.laws.specs.Men.{Man, empty, man}
 use Rattle.laws.proofs.Cases.{by-kinds}
-use Rattle.placement.specs.Placement.{kindLetter, byteOf}
-use Rattle.feed.specs.Appending.{Adds}
-use Rattle.report.proofs.Adding.{adds-as, adds-next}
+use Rattle.men_field.specs.Placement.{kindLetter, byteOf}
+use Rattle.output.specs.Appending.{Adds}
+use Rattle.rows.proofs.Adding.{adds-as, adds-next}
 use Rattle.drawing.specs.declared.Drawing.{Drawing}
 use Rattle.drawing.specs.Words.{bytes, bytesIn}
 use Rattle.drawing.proofs.Chained.{ends}

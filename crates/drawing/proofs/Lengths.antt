@@ -10,8 +10,8 @@ use lib.ListN.{length, length-append}
 use Rattle.geometry.specs.declared.Color.{Color}
 use Rattle.geometry.specs.declared.Color.the-variants.{White, Black}
 use Rattle.laws.specs.declared.ChessRetraction.{ChessRetraction}
-use Rattle.report.specs.Report.{decimalOf}
-use Rattle.report.proofs.Decimals.{number-short}
+use Rattle.rows.specs.Rows.{decimalOf}
+use Rattle.rows.proofs.Decimals.{number-short}
 use Rattle.drawing.specs.Words.{bytesIn, bytes, sideName, nameOf, movedKind, wayText, passes, castles, deedText, becomingText, verdictText, subjectText, wordsOf}
 
 pub length-bytes : (n : ℕ) (s : String) → length (bytesIn n s) ≡ n

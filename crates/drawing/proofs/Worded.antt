@@ -7,9 +7,10 @@ use native.Mathlib.Omega.{arith}
 use lib.ListN.{length, length-append}
 use Rattle.geometry.specs.declared.Color.{Color}
 use Rattle.laws.specs.declared.ChessRetraction.{ChessRetraction}
-use Rattle.feed.specs.Appending.{Adds}
-use Rattle.report.specs.Report.{decimalOf, squareName}
-use Rattle.report.proofs.Adding.{adds-as, adds-then}
+use Rattle.output.specs.Appending.{Adds}
+use Rattle.rows.specs.Rows.{decimalOf}
+use Rattle.men_field.specs.Placement.{squareName}
+use Rattle.rows.proofs.Adding.{adds-as, adds-then}
 use Rattle.drawing.specs.Words.{bytes, sideName, nameOf, movedKind, wayText, deedText, becomingText, verdictText, subjectText, wordsOf}
 use Rattle.drawing.proofs.Chained.{four-added, five-added}
 use Rattle.drawing.proofs.Lengths.{name-short, subject-short, way-short, words-short}

@@ -7,7 +7,7 @@ use Rattle.squares.specs.Members.{concat}
 use Rattle.laws.specs.Men.{Man, empty, man}
 use Rattle.laws.specs.Boards.{menAt}
 use Rattle.board.specs.declared.RetractableBoard.{RetractableBoard}
-use Rattle.placement.specs.Placement.{letterOf}
+use Rattle.men_field.specs.Placement.{letterOf}
 use Rattle.drawing.specs.declared.Drawing.{Drawing}
 use Rattle.drawing.specs.Words.{bytes}
 

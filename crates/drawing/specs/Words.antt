@@ -14,7 +14,8 @@ use Rattle.laws.specs.declared.ChessRetraction.{ChessRetraction}
 use Rattle.laws.specs.Men.{manNumber}
 use Rattle.board.specs.declared.RetractableBoard.{RetractableBoard}
 use Rattle.board.specs.Gate.{menOn}
-use Rattle.report.specs.Report.{decimalOf, squareName}
+use Rattle.rows.specs.Rows.{decimalOf}
+use Rattle.men_field.specs.Placement.{squareName}
 
 -- the n first characters of a text, as bytes
 unfoldable pub bytesIn : ℕ → String → List ℕ

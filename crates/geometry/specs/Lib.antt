@@ -1,3 +1,4 @@
+pub mod Chess
 pub mod Colors
 pub mod Lines
 pub mod Steps

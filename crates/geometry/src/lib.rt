@@ -2,6 +2,8 @@
 ghost use mathlib.Core.Path.{_≡_};
 ghost use Rattle.geometry.specs.Colors.{opp, isWhite};
 
+pub mod inner; // inner.rt: ranks and squares as a colour counts them
+
 pub enum Color {
     White,
     Black,

@@ -12,8 +12,8 @@ use Rattle.laws.specs.Positions.{Pos, retractor}
 use Rattle.laws.specs.Acceptance.{accepted}
 use Rattle.laws.specs.Unmaking.{unmade}
 use Rattle.laws.specs.Boards.{Board, Shaped, Clean, posOf, boardOf, acceptedBoard}
-use Rattle.men.specs.Standing.{menOf}
-use Rattle.pins.specs.Kings.{TheKing}
+use Rattle.men.specs.inner.Standing.{menOf}
+use Rattle.pins.specs.inner.Kings.{TheKing}
 use Rattle.incremental.specs.Found.{foundStored, rustFound, rustUnmade}
 use Rattle.squares.proofs.Testing.{left, right}
 use Rattle.laws.proofs.Mans.{opp-opp}

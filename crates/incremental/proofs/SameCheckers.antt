@@ -20,9 +20,9 @@ use Rattle.laws.specs.Men.{Man, man, Men, numbered, isOf, isEmpty, isKind, same
 use Rattle.laws.specs.Attacks.{unionOf, attacks, attacked, attacksFrom, checks, slides, checkersOf}
 use Rattle.laws.specs.Positions.{Pos, retractor}
 use Rattle.laws.specs.Acceptance.{quiet, accepted}
-use Rattle.laws.specs.Moves.{Way}
+use Rattle.laws.specs.declared.Way.{Way}
 use Rattle.laws.specs.Unmaking.{wayBack, unmade}
-use Rattle.pins.specs.Kings.{TheKing, snipersOf}
+use Rattle.pins.specs.inner.Kings.{TheKing, snipersOf}
 use Rattle.incremental.specs.Moved.{isPiece, isPassantUncapture}
 use Rattle.incremental.specs.Found.{asksKnights, asksPawns}
 use Rattle.incremental.proofs.Searched.{xorFrom, knightsAt, pawnsAt, mid, sliderCheck, nearAt, checkersAt}
@@ -33,13 +33,12 @@ use Rattle.squares.proofs.Every.{all-at, all-cong, any-of, any-at, any-cong}
 use Rattle.geometry.proofs.Turned.{knight-sym, pawn-turned}
 use Rattle.tables.proofs.Paths.{clear-is}
 use Rattle.laws.proofs.Cases.{implies, given, every, everyMan, by-cases, by-colors, by-men}
-use Rattle.laws.proofs.Mans.{opp-opp, same, same-self, own-colour}
+use Rattle.laws.proofs.Mans.{opp-opp, same, same-self, own-colour, isPassant}
 use Rattle.laws.proofs.Facts.{accepts}
 use Rattle.laws.proofs.Retracting.{mover, canRetract, back}
 use Rattle.attacks.proofs.Meets.{own, own-law}
 use Rattle.pins.proofs.OneKing.{any-king, slide-law}
-use Rattle.incremental.proofs.Ways.{isPassant}
-use Rattle.incremental.proofs.Stood.{stood, other, no-king, no-knight, no-pawn, not-king, no-rook, no-man}
+use Rattle.incremental.proofs.Stood.{stood, other, no-king, unnumbered, not-king, no-rook, no-man}
 use Rattle.incremental.proofs.Xor.{xor-fits, has-xorFrom}
 
 -- sliders: a member of the sum is a sniper with a clear path
@@ -169,7 +168,7 @@ module _ (p : Pos) (r : ChessRetraction) (ok : accepted p ≡ true) (can : canRe
       knights : sameMan (m a) (man (opp c) Knight) ≡ true → asksKnights k r ≡ false → knightStep a q ≡ true → ⊥
       knights e f at =
           let n = neither (isPiece King k) (eqb (r .uncaptured) 2) f in
-          unharmed Knight a la (no-king-there (n .0)) (man-stood Knight a (no-knight (opp c) (r .uncaptured) (n .1)) (λ h. unlike (opp c)) (same _ _ e)) at
+          unharmed Knight a la (no-king-there (n .0)) (man-stood Knight a (unnumbered (opp c) (r .uncaptured) Knight refl (n .1)) (λ h. unlike (opp c)) (same _ _ e)) at
         where
           unlike : (c : Color) → sameMan (man c Pawn) (man c Knight) ≡ false
           unlike White = refl
@@ -179,7 +178,7 @@ module _ (p : Pos) (r : ChessRetraction) (ok : accepted p ≡ true) (can : canRe
       pawns e f at =
           let n = neither (isPiece King k or eqb (r .uncaptured) 1) (isPassantUncapture k r) f in
           let l = neither (isPiece King k) (eqb (r .uncaptured) 1) (n .0) in
-          unharmed Pawn a la (no-king-there (l .0)) (man-stood Pawn a (no-pawn (opp c) (r .uncaptured) (l .1)) (λ h. absurd (true≢false (sym h ∙ sym by-passant ∙ n .1))) (same _ _ e)) at
+          unharmed Pawn a la (no-king-there (l .0)) (man-stood Pawn a (unnumbered (opp c) (r .uncaptured) Pawn refl (l .1)) (λ h. absurd (true≢false (sym h ∙ sym by-passant ∙ n .1))) (same _ _ e)) at
 
   -- one square
   asked : (b : Bool) (f : ℕ → Bool) (a : ℕ) (t : Bool) → a < 64 → f a ≡ t → has (cond b (setOf f) 0) a ≡ cond b t false

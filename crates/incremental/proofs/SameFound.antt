@@ -20,10 +20,10 @@ use Rattle.laws.specs.Men.{Man, man, Men, isOf, isKind, sameMan}
 use Rattle.laws.specs.Attacks.{slides}
 use Rattle.laws.specs.Positions.{Pos}
 use Rattle.laws.specs.Boards.{Board, kindSet, colorSet, kindSets, colorSets, Clean, menAt, boardOf}
-use Rattle.men.specs.Standing.{menOf}
-use Rattle.pins.specs.Kings.{snipersOf}
-use Rattle.scene.specs.Chess.{knightMoves, pawnAttacks}
-use Rattle.incremental.specs.Found.{menIn, foundStored, checkersXor, kingSquare, asksKnights, knightsFound, asksPawns, pawnsFound, bishopRays, rookRays, slidingAttackers, sliderFound, slidersFound, rustFound}
+use Rattle.men.specs.inner.Standing.{menOf}
+use Rattle.pins.specs.inner.Kings.{snipersOf}
+use Rattle.geometry.specs.Chess.{knightMoves, pawnAttacks}
+use Rattle.incremental.specs.Found.{sideMen, foundStored, checkersXor, kingSquare, asksKnights, knightsFound, asksPawns, pawnsFound, bishopRays, rookRays, slidingAttackers, sliderFound, slidersFound, rustFound}
 use Rattle.squares.proofs.Testing.{agree, agree-eq}
 use Rattle.squares.proofs.Digits.{has-and, has-or}
 use Rattle.squares.proofs.Comprehension.{is-upTo, has-setOf, and-setOf}
@@ -133,7 +133,7 @@ module _ (e : Pos) (on : OnBoard (e .men)) (k : Piece) (r : ChessRetraction) whe
   unfolding knightsFound foundStored
   knights-is q = go (asksKnights k r)
     where
-      go : (t : Bool) → cond t (checkersXor (foundStored (boardOf e) 0 0) (bitAnd (knightMoves q) (menIn (boardOf e) Knight (opp c)))) (foundStored (boardOf e) 0 0)
+      go : (t : Bool) → cond t (checkersXor (foundStored (boardOf e) 0 0) (bitAnd (knightMoves q) (sideMen (boardOf e) Knight (opp c)))) (foundStored (boardOf e) 0 0)
           ≡ foundStored (boardOf e) (cond t (setOf (knightsAt m c q)) 0) 0
       go true = ap (λ (z : ℕ). foundStored (boardOf e) z 0) (xor-zero-l _ ∙ near-in m on (knightStep q) Knight (opp c))
       go false = refl
@@ -142,7 +142,7 @@ module _ (e : Pos) (on : OnBoard (e .men)) (k : Piece) (r : ChessRetraction) whe
   unfolding pawnsFound foundStored
   pawns-is u q = go (asksPawns k r)
     where
-      go : (t : Bool) → cond t (checkersXor (foundStored (boardOf e) u 0) (bitAnd (pawnAttacks c q) (menIn (boardOf e) Pawn (opp c)))) (foundStored (boardOf e) u 0)
+      go : (t : Bool) → cond t (checkersXor (foundStored (boardOf e) u 0) (bitAnd (pawnAttacks c q) (sideMen (boardOf e) Pawn (opp c)))) (foundStored (boardOf e) u 0)
           ≡ foundStored (boardOf e) (bitXor u (cond t (setOf (pawnsAt m c q)) 0)) 0
       go true = ap (λ (z : ℕ). foundStored (boardOf e) (bitXor u z) 0) (near-in m on (pawnTakes c q) Pawn (opp c))
       go false = ap (λ (z : ℕ). foundStored (boardOf e) z 0) (sym (xor-zero-r u))

@@ -15,15 +15,19 @@ use Rattle.laws.specs.declared.EnPassantFlag.the-variants.{Any}
 use Rattle.laws.specs.declared.ChessRetraction.{ChessRetraction}
 use Rattle.laws.specs.Men.{Man, empty, man, Men, numbered, isEmpty, put}
 use Rattle.laws.specs.Attacks.{unionOf}
-use Rattle.laws.specs.Positions.{Pos, Side, short, long, holds, rightsOf, rightsFor, retractor, kingHome, kingTo}
+use Rattle.laws.specs.Positions.{Pos, holds, rightsOf, rightsFor, retractor, kingHome, kingTo}
+use Rattle.laws.specs.declared.Side.{Side}
+use Rattle.laws.specs.declared.Side.the-variants.{Short as short, Long as long}
 use Rattle.laws.specs.Acceptance.{accepted}
-use Rattle.laws.specs.Moves.{Way, plain, passant, castling, way, markOk, goes}
+use Rattle.laws.specs.declared.Way.{Way}
+use Rattle.laws.specs.declared.Way.the-variants.{Plain as plain, Passant as passant, Castle as castling}
+use Rattle.laws.specs.Moves.{way, markOk, goes}
 use Rattle.laws.specs.Unmaking.{leaving, promotedTo, undoable, regained, unmadeBy, wayBack, unmade}
 use Rattle.laws.specs.Boards.{Board, Clean, kindSets, colorSets, posOf, boardOf}
 use Rattle.incremental.specs.Moved.{pieceOn, openedOf, steppedOf, uncapturedOf, isUncastling, rightsStored, uncastledOf, isPassantUncapture, passantStored, rebornOf, rustMoved}
 use Rattle.incremental.specs.Found.{foundStored}
 use Rattle.squares.proofs.Testing.{left}
-use Rattle.laws.proofs.Mans.{opp-opp, castling-is}
+use Rattle.laws.proofs.Mans.{opp-opp, castling-is, isPassant}
 use Rattle.laws.proofs.Facts.{accepts}
 use Rattle.laws.proofs.Puts.{Done}
 use Rattle.laws.proofs.Rights.{home}
@@ -31,7 +35,7 @@ use Rattle.laws.proofs.StateBack.{Around, around}
 use Rattle.laws.proofs.Retracting.{mover, canRetract, Back, back, done-of}
 use Rattle.incremental.proofs.Toggling.{withMen}
 use Rattle.incremental.proofs.Stages.{gone, ofSide, stepped, uncaptured, uncastled, reborn, skip-castle, skip-passant}
-use Rattle.incremental.proofs.Ways.{kind-of, piece-read, isPassant, isCastle, passant-test, castle-test}
+use Rattle.incremental.proofs.Ways.{kind-of, piece-read, isCastle, passant-test, castle-test}
 
 -- rights: those kept, and the one that castling gives back to a king that had none
 kept : (w : CastleRights) → w ≡ rightsFor (holds w short or false) (holds w long or false)

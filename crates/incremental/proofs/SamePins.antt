@@ -16,7 +16,7 @@ use Rattle.geometry.specs.Colors.{opp}
 use Rattle.geometry.specs.Lines.{between, betweenOf}
 use Rattle.laws.specs.Men.{Man, empty, man, Men, isOf, isEmpty}
 use Rattle.laws.specs.Attacks.{unionOf, slides, alone, pinsOf}
-use Rattle.pins.specs.Kings.{TheKing, snipersOf}
+use Rattle.pins.specs.inner.Kings.{TheKing, snipersOf}
 use Rattle.incremental.proofs.Searched.{xorFrom, mid, sliderPin, pinsAt}
 use Rattle.squares.proofs.Testing.{left, right, either, failed}
 use Rattle.squares.proofs.Digits.{has-zero}

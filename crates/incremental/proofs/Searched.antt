@@ -12,7 +12,7 @@ use Rattle.geometry.specs.Steps.{knightStep, pawnTakes}
 use Rattle.laws.specs.declared.Piece.the-variants.{Pawn, Knight}
 use Rattle.laws.specs.Men.{man, Men, sameMan}
 use Rattle.laws.specs.Attacks.{unionOf}
-use Rattle.pins.specs.Kings.{snipersOf}
+use Rattle.pins.specs.inner.Kings.{snipersOf}
 
 -- the set x with the sets f a of the squares a below n, one after the other
 unfoldable pub xorFrom : ℕ → ℕ → (ℕ → ℕ) → ℕ

@@ -10,7 +10,7 @@ use borrow.Author.Tests.{eqb-true}
 use Rattle.squares.specs.Squares.{file, only}
 use Rattle.geometry.specs.declared.Color.{Color}
 use Rattle.geometry.specs.declared.Color.the-variants.{White, Black}
-use Rattle.geometry.specs.Colors.{opp, rankFor, behind}
+use Rattle.geometry.specs.Colors.{opp, rankFor, behind, backOf}
 use Rattle.laws.specs.declared.Piece.{Piece}
 use Rattle.laws.specs.declared.Piece.the-variants.{Pawn, Rook}
 use Rattle.laws.specs.declared.CastleRights.{CastleRights}
@@ -18,11 +18,12 @@ use Rattle.laws.specs.declared.CastleRights.the-variants.{KingSide, QueenSide}
 use Rattle.laws.specs.declared.EnPassantFlag.the-variants.{Some}
 use Rattle.laws.specs.declared.ChessRetraction.{ChessRetraction}
 use Rattle.laws.specs.Men.{Man, empty, man, Men, isEmpty, put}
-use Rattle.laws.specs.Positions.{Side, short, long, kingHome, corner, kingTo, rookTo}
-use Rattle.laws.specs.Moves.{passant, castling}
+use Rattle.laws.specs.declared.Side.{Side}
+use Rattle.laws.specs.declared.Side.the-variants.{Short as short, Long as long}
+use Rattle.laws.specs.Positions.{kingHome, corner, kingTo, rookTo}
+use Rattle.laws.specs.declared.Way.the-variants.{Passant as passant, Castle as castling}
 use Rattle.laws.specs.Unmaking.{before, leaving}
 use Rattle.laws.specs.Boards.{Board}
-use Rattle.scene.specs.Chess.{backOf}
 use Rattle.incremental.specs.Moved.{xorOf, retractionBb, steppedOf, uncapturedOf, isUncastling, rightsStored, rookedOf, uncastledOf, isPassantUncapture, passantStored, rebornOf}
 use Rattle.laws.proofs.Puts.{put-at, put-off, over, Done}
 use Rattle.laws.proofs.StateBack.{Around}

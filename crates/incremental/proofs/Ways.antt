@@ -17,8 +17,12 @@ use Rattle.laws.specs.declared.Piece.{Piece}
 use Rattle.laws.specs.declared.Piece.the-variants.{Pawn, Knight, Bishop, Rook, Queen, King}
 use Rattle.laws.specs.declared.ChessRetraction.{ChessRetraction}
 use Rattle.laws.specs.Men.{Man, empty, man, Men, kindNumber, isOf, isKind}
-use Rattle.laws.specs.Positions.{Pos, Side, short, long, kingHome, kingTo}
-use Rattle.laws.specs.Moves.{Way, plain, passant, castling, way, markOk, moves, goes}
+use Rattle.laws.specs.Positions.{Pos, kingHome, kingTo}
+use Rattle.laws.specs.declared.Side.{Side}
+use Rattle.laws.specs.declared.Side.the-variants.{Short as short, Long as long}
+use Rattle.laws.specs.declared.Way.{Way}
+use Rattle.laws.specs.declared.Way.the-variants.{Plain as plain, Passant as passant, Castle as castling}
+use Rattle.laws.specs.Moves.{way, markOk, moves, goes}
 use Rattle.laws.specs.Unmaking.{leaving, promotedTo, undoable}
 use Rattle.laws.specs.Boards.{Board, kindSet, menAt, Clean}
 use Rattle.incremental.specs.Moved.{isPiece, pieceOn, castleMoves, isUncastling, isPassantUncapture}
@@ -26,7 +30,7 @@ use Rattle.squares.proofs.Testing.{both, left, right, failed, bool-ext}
 use Rattle.squares.proofs.Digits.{differs, has-and, has-xor}
 use Rattle.squares.proofs.Comprehension.{has-setOf}
 use Rattle.squares.proofs.Every.{pair-eq}
-use Rattle.laws.proofs.Mans.{same-colour}
+use Rattle.laws.proofs.Mans.{same-colour, isPassant}
 use Rattle.laws.proofs.ManSets.{has-kind}
 
 -- a man of the colour c, by its kind
@@ -77,11 +81,6 @@ officer c k s h = go k (right _ _ (left _ _ h)) (right _ _ h)
     go Rook p q = (refl, refl)
     go Queen p q = (refl, refl)
     go King p q = absurd (false≢true q)
-
-abbrev pub isPassant : Way → Bool
-isPassant plain = false
-isPassant passant = true
-isPassant (castling d) = false
 
 abbrev pub isCastle : Way → Bool
 isCastle plain = false

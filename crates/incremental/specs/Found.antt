@@ -15,12 +15,12 @@ use Rattle.laws.specs.declared.Piece.{Piece}
 use Rattle.laws.specs.declared.Piece.the-variants.{Pawn, Knight, Bishop, Rook, Queen, King}
 use Rattle.laws.specs.declared.ChessRetraction.{ChessRetraction}
 use Rattle.laws.specs.Boards.{Board, kindSet, colorSet}
-use Rattle.scene.specs.Chess.{knightMoves, pawnAttacks}
+use Rattle.geometry.specs.Chess.{knightMoves, pawnAttacks}
 use Rattle.incremental.specs.Moved.{isPiece, isPassantUncapture, pieceOn, rustMoved}
 
 -- `result.pieces(piece) & result.color_combined(color)`
-abbrev pub menIn : Board → Piece → Color → ℕ
-menIn b piece color = bitAnd (kindSet (b .pieces) piece) (colorSet (b .colors) color)
+abbrev pub sideMen : Board → Piece → Color → ℕ
+sideMen b piece color = bitAnd (kindSet (b .pieces) piece) (colorSet (b .colors) color)
 
 -- checkers and pins stored
 unfoldable pub foundStored : Board → (checkers pinned : ℕ) → Board
@@ -45,7 +45,7 @@ pinnedXor b bb = foundStored b (b .checkers) (bitXor (b .pinned) bb)
 
 -- `king_square` (390 to 391)
 abbrev pub kingSquare : Board → Color → ℕ
-kingSquare result color = firstOf (menIn result King color)
+kingSquare result color = firstOf (sideMen result King color)
 
 -- `retracted_piece == Piece::King || r.uncaptured() == Some(Piece::Knight)` (394)
 unfoldable pub asksKnights : Piece → ChessRetraction → Bool
@@ -53,7 +53,7 @@ asksKnights piece r = isPiece King piece or eqb (r .uncaptured) 2
 
 -- knight checks (394 to 397), `king_square` being king
 unfoldable pub knightsFound : Board → Piece → ChessRetraction → Color → ℕ → Board
-knightsFound result piece r turn king = cond (asksKnights piece r) (checkersXor result (bitAnd (knightMoves king) (menIn result Knight turn))) result
+knightsFound result piece r turn king = cond (asksKnights piece r) (checkersXor result (bitAnd (knightMoves king) (sideMen result Knight turn))) result
 
 -- `retracted_piece == Piece::King || r.uncaptured() == Some(Piece::Pawn) || en_passant_uncapture` (400 to 402)
 unfoldable pub asksPawns : Piece → ChessRetraction → Bool
@@ -61,7 +61,7 @@ asksPawns piece r = isPiece King piece or eqb (r .uncaptured) 1 or isPassantUnca
 
 -- pawn checks (400 to 406): `get_pawn_attacks(king_square, color, pawns)`
 unfoldable pub pawnsFound : Board → Piece → ChessRetraction → Color → Color → ℕ → Board
-pawnsFound result piece r color turn king = cond (asksPawns piece r) (checkersXor result (bitAnd (pawnAttacks color king) (menIn result Pawn turn))) result
+pawnsFound result piece r color turn king = cond (asksPawns piece r) (checkersXor result (bitAnd (pawnAttacks color king) (sideMen result Pawn turn))) result
 
 -- `get_bishop_rays(sq)`, `get_rook_rays(sq)`
 abbrev pub bishopRays : ℕ → ℕ

@@ -9,7 +9,7 @@ use lib.ListN.{set}
 use Rattle.squares.specs.Tests.{_and_}
 use Rattle.squares.specs.Squares.{file, has, only}
 use Rattle.geometry.specs.declared.Color.{Color}
-use Rattle.geometry.specs.Colors.{opp, isWhite, homeSquare}
+use Rattle.geometry.specs.Colors.{opp, isWhite, homeSquare, backOf}
 use Rattle.laws.specs.declared.Piece.{Piece}
 use Rattle.laws.specs.declared.Piece.the-variants.{Pawn, Knight, Bishop, Rook, Queen, King}
 use Rattle.laws.specs.declared.CastleRights.{CastleRights}
@@ -19,7 +19,6 @@ use Rattle.laws.specs.declared.EnPassantFlag.the-variants.{Any, Some}
 use Rattle.laws.specs.declared.ChessRetraction.{ChessRetraction}
 use Rattle.laws.specs.Men.{Man, empty, man, kindNumber, colorPlace, kindPlace, numbered}
 use Rattle.laws.specs.Boards.{Board, kindSet, colorSet}
-use Rattle.scene.specs.Chess.{backOf}
 
 -- `piece == Piece::K`
 abbrev pub isPiece : Piece → Piece → Bool

@@ -10,74 +10,75 @@ use Rattle.squares.specs.Members.{compl, firstOf}
 use Rattle.geometry.specs.Colors.{homeSquare}
 use Rattle.geometry.specs.Lines.{betweenOf}
 use Rattle.laws.specs.declared.Piece.the-variants.{Pawn, Knight, Bishop, Rook, Queen, King}
-use Rattle.laws.specs.Positions.{short, long, kingHome, corner, kingTo, rookTo}
+use Rattle.laws.specs.declared.Side.the-variants.{Short as short, Long as long}
+use Rattle.laws.specs.Positions.{kingHome, corner, kingTo, rookTo}
 use Rattle.laws.specs.Boards.{kindSet}
-use Rattle.roll.specs.declared.SourceAndTargets.{SourceAndTargets}
-use Rattle.roll.specs.declared.UnCaptureKind.the-variants.{Optional, Necessary, Forbidden}
-use Rattle.roll.specs.Roll.{entryOf, offered}
-use Rattle.scene.specs.declared.Scene.{Scene}
-use Rattle.scene.specs.Chess.{knightMoves, kingMoves, bishopMoves, rookMoves, pawnAttacks}
+use Rattle.retraction_list.specs.declared.SourceAndTargets.{SourceAndTargets}
+use Rattle.retraction_list.specs.declared.UnCaptureKind.the-variants.{Optional, Necessary, Forbidden}
+use Rattle.retraction_list.specs.Entries.{entryOf, offered}
+use Rattle.view.specs.declared.View.{View}
+use Rattle.geometry.specs.Chess.{knightMoves, kingMoves, bishopMoves, rookMoves, pawnAttacks}
 
 -- `is_attacked(board, sq, color)` (chess_utils.rs, 136 to 157) for the side to move: its rooks, bishops and queens that see sq (142 to 148). The
 -- sets in `foes` are `board.pieces(k) & color_pieces`, so `(R | Q) & color_pieces` reads `R | Q` of them
-unfoldable pub farOf : Scene → ℕ → ℕ
-farOf s sq =
-    bitOr (bitAnd (rookMoves sq (s .combined)) (bitOr (kindSet (s .foes) Rook) (kindSet (s .foes) Queen)))
-    (bitAnd (bishopMoves sq (s .combined)) (bitOr (kindSet (s .foes) Bishop) (kindSet (s .foes) Queen)))
+unfoldable pub farOf : View → ℕ → ℕ
+farOf v sq =
+    bitOr (bitAnd (rookMoves sq (v .combined)) (bitOr (kindSet (v .foes) Rook) (kindSet (v .foes) Queen)))
+    (bitAnd (bishopMoves sq (v .combined)) (bitOr (kindSet (v .foes) Bishop) (kindSet (v .foes) Queen)))
 
 -- its knights, king and pawns that see sq (150 to 154): pawns attack from where the other colour's would attack back
-unfoldable pub nearOf : Scene → ℕ → ℕ
-nearOf s sq =
-    bitOr (bitOr (bitAnd (knightMoves sq) (kindSet (s .foes) Knight)) (bitAnd (kingMoves sq) (kindSet (s .foes) King)))
-    (bitAnd (pawnAttacks (s .color) sq) (kindSet (s .foes) Pawn))
+unfoldable pub nearOf : View → ℕ → ℕ
+nearOf v sq =
+    bitOr (bitOr (bitAnd (knightMoves sq) (kindSet (v .foes) Knight)) (bitAnd (kingMoves sq) (kindSet (v .foes) King)))
+    (bitAnd (pawnAttacks (v .color) sq) (kindSet (v .foes) Pawn))
 
 -- `attackers != EMPTY`
-unfoldable pub attackedOf : Scene → ℕ → Bool
-attackedOf s sq = not (eqb (bitOr (farOf s sq) (nearOf s sq)) 0)
+unfoldable pub attackedOf : View → ℕ → Bool
+attackedOf v sq = not (eqb (bitOr (farOf v sq) (nearOf v sq)) 0)
 
 -- `targets` (519 to 521)
-abbrev pub awayOf : Scene → ℕ
-awayOf s = bitAnd (bitAnd (bitAnd (kingMoves (s .king)) (s .mask)) (compl (bitAnd (kingMoves (s .oppking)) (s .mask)))) (compl (s .combined))
+abbrev pub awayOf : View → ℕ
+awayOf v = bitAnd (bitAnd (bitAnd (kingMoves (v .king)) (v .mask)) (compl (bitAnd (kingMoves (v .oppking)) (v .mask)))) (compl (v .combined))
 
 -- and on the checker's ray if there is one (523 to 525)
-unfoldable pub stepsOf : Scene → ℕ → ℕ
-stepsOf s n = cond (eqb n 1) (bitAnd (awayOf s) (betweenOf (firstOf (s .checkers)) (s .oppking))) (awayOf s)
+unfoldable pub stepsOf : View → ℕ → ℕ
+stepsOf v n = cond (eqb n 1) (bitAnd (awayOf v) (betweenOf (firstOf (v .checkers)) (v .oppking))) (awayOf v)
 
 -- `targets_with_optional_uncapture` (527 to 531)
-abbrev pub mayOf : Scene → ℕ → ℕ
-mayOf s targets = cond (has (s .pinned) (s .king)) (bitAnd targets (betweenOf (s .king) (s .oppking))) targets
+abbrev pub mayOf : View → ℕ → ℕ
+mayOf v targets = cond (has (v .pinned) (v .king)) (bitAnd targets (betweenOf (v .king) (v .oppking))) targets
 
 -- the steps' entries (532 to 554)
-unfoldable pub steppedOf : Scene → ℕ → List SourceAndTargets
-steppedOf s targets =
-    offered (s .king) (mayOf s targets) Optional false ++ offered (s .king) (bitAnd targets (compl (mayOf s targets))) Necessary false
+unfoldable pub steppedOf : View → ℕ → List SourceAndTargets
+steppedOf v targets =
+    offered (v .king) (mayOf v targets) Optional false ++ offered (v .king) (bitAnd targets (compl (mayOf v targets))) Necessary false
 
 -- neither the rook's square nor the king's earlier one is attacked
-unfoldable pub safeOf : Scene → ℕ → ℕ → Bool
-safeOf s rook e = not (attackedOf s rook) and not (attackedOf s e)
+unfoldable pub safeOf : View → ℕ → ℕ → Bool
+safeOf v rook e = not (attackedOf v rook) and not (attackedOf v e)
 
 -- what both un-castlings ask (567 to 574, 587 to 596): our rook stands on its square; e and the corner are empty; no attack; the rook on the
 -- corner gives no check; there is no checker, or the rook is one. The order of these tests says nothing
-unfoldable pub castledOf : Scene → ℕ → ℕ → ℕ → ℕ → Bool
-castledOf s n rook e corner =
-    has (kindSet (s .men) Rook) rook and not (has (s .combined) e) and not (has (s .combined) corner) and safeOf s rook e
-    and not (has (rookMoves (s .oppking) (s .combined)) corner)
-    and (eqb n 0 or has (s .checkers) rook)
+unfoldable pub castledOf : View → ℕ → ℕ → ℕ → ℕ → Bool
+castledOf v n rook e corner =
+    has (kindSet (v .men) Rook) rook and not (has (v .combined) e) and not (has (v .combined) corner) and safeOf v rook e
+    and not (has (rookMoves (v .oppking) (v .combined)) corner)
+    and (eqb n 0 or has (v .checkers) rook)
 
 -- `src` is on its home rank (563) and on g (566): `src.uleft()` is f, `src.uleft().uleft()` e and `src.uright()` h
-unfoldable pub shortOf : Scene → ℕ → Bool
-shortOf s n = eqb (s .king) (kingTo (s .color) short) and castledOf s n (rookTo (s .color) short) (kingHome (s .color)) (corner (s .color) short)
+unfoldable pub shortOf : View → ℕ → Bool
+shortOf v n = eqb (v .king) (kingTo (v .color) short) and castledOf v n (rookTo (v .color) short) (kingHome (v .color)) (corner (v .color) short)
 
 -- on c (586), with b empty too (589)
-unfoldable pub longOf : Scene → ℕ → Bool
-longOf s n =
-    eqb (s .king) (kingTo (s .color) long) and not (has (s .combined) (homeSquare (s .color) 1))
-    and castledOf s n (rookTo (s .color) long) (kingHome (s .color)) (corner (s .color) long)
+unfoldable pub longOf : View → ℕ → Bool
+longOf v n =
+    eqb (v .king) (kingTo (v .color) long) and not (has (v .combined) (homeSquare (v .color) 1))
+    and castledOf v n (rookTo (v .color) long) (kingHome (v .color)) (corner (v .color) long)
 
 -- both push the same entry, the king to e (577 to 583, 599 to 605)
-unfoldable pub uncastledOf : Scene → ℕ → List SourceAndTargets
-uncastledOf s n = cond (shortOf s n or longOf s n) (entryOf (s .king) (only (kingHome (s .color))) Forbidden false ∷ []) []
+unfoldable pub uncastledOf : View → ℕ → List SourceAndTargets
+uncastledOf v n = cond (shortOf v n or longOf v n) (entryOf (v .king) (only (kingHome (v .color))) Forbidden false ∷ []) []
 
 -- `legals` (504 to 608): nothing while a right is held (515)
-unfoldable pub kingOf : Scene → ℕ → List SourceAndTargets
-kingOf s n = cond (s .held) [] (steppedOf s (stepsOf s n) ++ uncastledOf s n)
+unfoldable pub kingOf : View → ℕ → List SourceAndTargets
+kingOf v n = cond (v .held) [] (steppedOf v (stepsOf v n) ++ uncastledOf v n)

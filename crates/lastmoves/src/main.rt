@@ -1,9 +1,8 @@
 // Answers each line of standard input, a text, with the last moves that its board may have had.
-use feed::Step;
+use input::Step;
 use libc::STDERR_FILENO;
 use libc::STDOUT_FILENO;
 ghost use Prim.Native.Nat.{_≤_};
-ghost use lib.ListN.{length};
 
 fn main() {
     let mut chunk = io::large_buffer();
@@ -14,7 +13,7 @@ fn main() {
     answer_all(&mut chunk, &mut line, &mut listed, &mut strict, &mut out);
 }
 
-// The turns are counted down from a number that no input uses up. Where nothing more can be written, nothing more is read.
+// No input uses the turns up. Where nothing more can be written, nothing more is read.
 fn answer_all(
     chunk: &mut [u8; 65536],
     line: &mut [u8; 512],
@@ -22,10 +21,9 @@ fn answer_all(
     strict: &mut [u16; 8192],
     out: &mut [u8; 196608],
 ) {
-    let mut c = feed::start();
-    let mut turns = u64::MAX;
-    while turns > 0 {
-        let s = feed::next(chunk, line, c);
+    let mut c = input::start();
+    for _ in 0..u64::MAX {
+        let s = input::next(chunk, line, c);
         match s {
             Step::End => {
                 return;
@@ -40,7 +38,6 @@ fn answer_all(
                     return;
                 }
                 c = next;
-                turns -= 1;
             }
         }
     }
@@ -48,15 +45,16 @@ fn answer_all(
 
 // One write a line. A line longer than its buffer has no form, and neither have its first 512 bytes.
 fn answer_line(
-    line: &[u8],
+    line: &[u8; 512],
     len: usize,
     listed: &mut [u16; 8192],
     strict: &mut [u16; 8192],
     out: &mut [u8; 196608],
 ) -> bool
-    requires { ⌜ len ≤ length (now line) ⌝ }
+    requires { ⌜ len ≤ 512 ⌝ }
 {
-    let n = answer::reply(&line[..len], listed, strict, out);
-    let text: &[u8] = out;
-    io::write_all(STDOUT_FILENO, &text[..n])
+    let text: &[u8] = line;
+    let n = reply::reply(&text[..len], listed, strict, out);
+    let printed: &[u8] = out;
+    io::write_all(STDOUT_FILENO, &printed[..n])
 }

@@ -13,9 +13,12 @@ use Rattle.laws.specs.declared.Piece.the-variants.{Pawn, Rook}
 use Rattle.laws.specs.declared.ChessRetraction.{ChessRetraction}
 use Rattle.laws.specs.Men.{Man, empty, man, Men, numbered, put}
 use Rattle.laws.specs.Attacks.{unionOf, checkersOf, pinsOf}
-use Rattle.laws.specs.Positions.{Side, short, long, Rights, holds, rightsOf, rightsFor, Pos, retractor, corner, rookTo}
+use Rattle.laws.specs.declared.Side.{Side}
+use Rattle.laws.specs.declared.Side.the-variants.{Short as short, Long as long}
+use Rattle.laws.specs.Positions.{Rights, holds, rightsOf, rightsFor, Pos, retractor, corner, rookTo}
 use Rattle.laws.specs.Acceptance.{accepted}
-use Rattle.laws.specs.Moves.{Way, plain, passant, castling}
+use Rattle.laws.specs.declared.Way.{Way}
+use Rattle.laws.specs.declared.Way.the-variants.{Plain as plain, Passant as passant, Castle as castling}
 use Rattle.laws.specs.Unmaking.{before, wayBack, unmade, undoable}
 use Rattle.laws.specs.Strictness.{Gives, strict}
 use Rattle.laws.specs.Retractions.{InRange}

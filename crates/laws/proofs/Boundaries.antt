@@ -6,7 +6,9 @@ use lib.Dec.{lit<}
 use Rattle.geometry.specs.declared.Color.{Color}
 use Rattle.geometry.specs.declared.Color.the-variants.{White, Black}
 use Rattle.geometry.specs.Colors.{rankFor, behind}
-use Rattle.laws.specs.Positions.{Side, short, long, corner, rookTo}
+use Rattle.laws.specs.declared.Side.{Side}
+use Rattle.laws.specs.declared.Side.the-variants.{Short as short, Long as long}
+use Rattle.laws.specs.Positions.{corner, rookTo}
 
 pub behind-in : (c : Color) (s : ℕ) → s < 64 → rankFor c s ≡ 5 → behind c s < 64
 behind-in White s h e = omega arith

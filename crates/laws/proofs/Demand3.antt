@@ -16,12 +16,15 @@ use Rattle.laws.specs.declared.EnPassantFlag.{EnPassantFlag}
 use Rattle.laws.specs.declared.EnPassantFlag.the-variants.{Some}
 use Rattle.laws.specs.declared.ChessRetraction.{ChessRetraction}
 use Rattle.laws.specs.Men.{Man, empty, man, Men, numbered, isEmpty, isOf, isPawn, bare, put}
-use Rattle.laws.specs.Souls.{soulsOk}
-use Rattle.laws.specs.Positions.{Side, short, long, Rights, Pos, retractor, kingHome, corner, kingTo, rookTo}
+use Rattle.laws.specs.declared.Side.{Side}
+use Rattle.laws.specs.declared.Side.the-variants.{Short as short, Long as long}
+use Rattle.laws.specs.Positions.{Rights, Pos, retractor, kingHome, corner, kingTo, rookTo}
 use Rattle.laws.specs.Acceptance.{edge, stateOk, quiet, accepted}
-use Rattle.laws.specs.Moves.{Way, plain, passant, castling, way, cleared, filled, after, goes, markOk, possible, arriving, kept, replayed, safe, legal}
+use Rattle.laws.specs.declared.Way.{Way}
+use Rattle.laws.specs.declared.Way.the-variants.{Plain as plain, Passant as passant, Castle as castling}
+use Rattle.laws.specs.Moves.{way, cleared, filled, after, goes, markOk, possible, arriving, kept, replayed, safe, legal}
 use Rattle.laws.specs.Unmaking.{before, leaving, regained, stateBefore, unmadeBy, wayBack, unmade, undoable, promotedTo, retractable}
-use Rattle.laws.specs.Strictness.{agrees, Gives, Past, strictBy, strict}
+use Rattle.laws.specs.Strictness.{counts, agrees, Gives, Past, strictBy, strict}
 use Rattle.squares.proofs.Testing.{both, left, right, or-right}
 use Rattle.squares.proofs.Every.{all-at}
 use Rattle.laws.proofs.Mans.{opp-opp, is-empty, numbered-not-of, leaves, kind-back, arriving-of, passant-is, castling-is, state-named}
@@ -36,7 +39,7 @@ use Rattle.laws.proofs.Rights.{home, fewer, same-right-self, regained-i
 pub sound : (p : Pos) (r : ChessRetraction) → accepted p ≡ true → strict p r ≡ true → Gives (unmade p r) p r (kindToday p r)
 sound p r ok h = record {
   isAccepted = right _ _ (left _ _ (left _ _ (left _ _ h)));
-  fewSouls = right _ _ (left _ _ (left _ _ h));
+  isCounted = right _ _ (left _ _ (left _ _ h));
   isLegal = both (both (again .possible-again) safe-way) calm;
   sameMen = again .men-back;
   sameTurn = again .turn-back;
@@ -162,7 +165,7 @@ left-bare (castling d) c t s a m ne f =
     off s a t ne (off (rookTo c d) (man c Rook) t (λ q. home≢rook c d (sym (f d refl) ∙ q)) (put-at t empty (cleared (castling d) c s m)))
 
 -- the board after the move, with any state, as a strict test sees it
-complete-at : (b : Pos) (r : ChessRetraction) (k : ℕ) (st : EnPassantFlag) → accepted b ≡ true → soulsOk (b .men) ≡ true → legal b r k ≡ true
+complete-at : (b : Pos) (r : ChessRetraction) (k : ℕ) (st : EnPassantFlag) → accepted b ≡ true → counts b ≡ true → legal b r k ≡ true
     → agrees st (replayed b r k .state) ≡ true
     → strict (record { men = replayed b r k .men; turn = opp (b .turn); rights = replayed b r k .rights; state = st }) r ≡ true
 complete-at b r k st ok few leg agr =
@@ -267,7 +270,7 @@ pub complete : (e p : Pos) (r : ChessRetraction) (k : ℕ) → Gives e p r k →
 complete e p r k h =
     subst (λ (b : Bool). b ≡ true)
     (λ i. strict (record { men = h .sameMen i; turn = h .sameTurn i; rights = h .sameRights i; state = p .state }) r)
-    (complete-at e r k (p .state) (h .isAccepted) (h .fewSouls) (h .isLegal) (h .sameState))
+    (complete-at e r k (p .state) (h .isAccepted) (h .isCounted) (h .isLegal) (h .sameState))
 
 -- demand 3, of positions
 pub demand3 : (p : Pos) (r : ChessRetraction) → accepted p ≡ true → (strict p r ≡ true) ↔ Past p r

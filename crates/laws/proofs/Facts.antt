@@ -13,7 +13,8 @@ use Rattle.laws.specs.declared.ChessRetraction.{ChessRetraction}
 use Rattle.laws.specs.Men.{empty, man, Men, numbered, isOf, isPawn}
 use Rattle.laws.specs.Positions.{Pos}
 use Rattle.laws.specs.Acceptance.{kingsOk, edge, pawnsOk, rightsOk, stateOk, beside, quiet, accepted}
-use Rattle.laws.specs.Moves.{Way, way, goes, markOk, possible}
+use Rattle.laws.specs.declared.Way.{Way}
+use Rattle.laws.specs.Moves.{way, goes, markOk, possible}
 use Rattle.laws.specs.Unmaking.{held, undoable, promotedTo, retractable}
 use Rattle.squares.proofs.Testing.{both, left, right}
 use Rattle.laws.proofs.Mans.{same, same-self, is-empty}

@@ -14,8 +14,12 @@ use Rattle.laws.specs.declared.Piece.{Piece}
 use Rattle.laws.specs.declared.Piece.the-variants.{Pawn, Knight, Bishop, Rook, Queen, King}
 use Rattle.laws.specs.Men.{Man, empty, man, Men, kindNumber, numbered, put}
 use Rattle.laws.specs.Souls.{number}
-use Rattle.laws.specs.Positions.{Side, short, long, corner, kingTo, rookTo}
-use Rattle.laws.specs.Moves.{Way, plain, passant, castling, markOk}
+use Rattle.laws.specs.declared.Side.{Side}
+use Rattle.laws.specs.declared.Side.the-variants.{Short as short, Long as long}
+use Rattle.laws.specs.Positions.{corner, kingTo, rookTo}
+use Rattle.laws.specs.declared.Way.{Way}
+use Rattle.laws.specs.declared.Way.the-variants.{Plain as plain, Passant as passant, Castle as castling}
+use Rattle.laws.specs.Moves.{markOk}
 use Rattle.laws.specs.Unmaking.{before, leaving, undoable, promotedTo}
 use Rattle.squares.proofs.Testing.{left, right}
 use Rattle.laws.proofs.Cases.{everyColor, everyKind, by-colors, by-kinds}

@@ -16,8 +16,12 @@ use Rattle.laws.specs.declared.Piece.the-variants.{Pawn, Knight, Bishop,
 use Rattle.laws.specs.declared.EnPassantFlag.{EnPassantFlag}
 use Rattle.laws.specs.declared.EnPassantFlag.the-variants.{Any, Some, None}
 use Rattle.laws.specs.Men.{Man, empty, man, kindNumber, numbered, colorPlace, manNumber, manOf, sameMan, isEmpty, isOf, isPawn}
-use Rattle.laws.specs.Positions.{Side, short, long, kingHome, kingTo}
-use Rattle.laws.specs.Moves.{Way, plain, passant, castling, way, markOk, arriving, isNamed}
+use Rattle.laws.specs.declared.Side.{Side}
+use Rattle.laws.specs.declared.Side.the-variants.{Short as short, Long as long}
+use Rattle.laws.specs.Positions.{kingHome, kingTo}
+use Rattle.laws.specs.declared.Way.{Way}
+use Rattle.laws.specs.declared.Way.the-variants.{Plain as plain, Passant as passant, Castle as castling}
+use Rattle.laws.specs.Moves.{way, markOk, arriving, isNamed}
 use Rattle.laws.specs.Unmaking.{leaving, promotedTo}
 use Rattle.squares.proofs.Testing.{left, right}
 
@@ -130,7 +134,7 @@ arriving-of x c s true (suc (suc (suc (suc zero)))) e h = own-colour c Rook
 arriving-of x c s true (suc (suc (suc (suc (suc n))))) e h = own-colour c Queen
 
 -- ways, told apart by tests
-isPassant : Way → Bool
+abbrev pub isPassant : Way → Bool
 isPassant plain = false
 isPassant passant = true
 isPassant (castling d) = false
@@ -158,7 +162,7 @@ kingWay : Bool → Bool → Bool → Way
 kingWay a b l = cond a (cond b (castling short) (cond l (castling long) plain)) plain
 
 pub passant-is : (x : Man) (t s u : ℕ) (c : Color) → isOf c x ≡ true → way x t s u ≡ passant → (x ≡ man c Pawn) × (u ≡ 0)
-unfolding isPassant kingWay
+unfolding kingWay
 passant-is x t s u c e h = go x e (ap isPassant h)
   where
     no-king : (a b l : Bool) → isPassant (kingWay a b l) ≡ true → ⊥

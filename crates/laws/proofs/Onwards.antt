@@ -13,7 +13,9 @@ use Rattle.laws.specs.Men.{Man, empty, man, Men, numbered, isOf, put}
 use Rattle.laws.specs.Souls.{number}
 use Rattle.laws.specs.Positions.{Pos, corner, rookTo}
 use Rattle.laws.specs.Acceptance.{kingsOk}
-use Rattle.laws.specs.Moves.{Way, plain, passant, castling, way, cleared, filled, after, arriving, markOk, possible, replayed}
+use Rattle.laws.specs.declared.Way.{Way}
+use Rattle.laws.specs.declared.Way.the-variants.{Plain as plain, Passant as passant, Castle as castling}
+use Rattle.laws.specs.Moves.{way, cleared, filled, after, arriving, markOk, possible, replayed}
 use Rattle.laws.specs.Unmaking.{undoable}
 use Rattle.squares.proofs.Testing.{both, left, right}
 use Rattle.laws.proofs.Mans.{numbered-not-of, pawn-of, castling-is}
@@ -81,6 +83,3 @@ module _ (b : Pos) (r : ChessRetraction) (k : ℕ) (ok : Passes b) (h : possible
 
   pub kings-on : kingsOk (replayed b r k .men) ≡ true
   kings-on = both (eq-eqb _ _ (kings-at White ∙ eqb-true _ _ (left _ _ (ok .kings)))) (eq-eqb _ _ (kings-at Black ∙ eqb-true _ _ (right _ _ (ok .kings))))
-
-  pub replayed-on : OnBoard (b .men) → OnBoard (replayed b r k .men)
-  replayed-on o = after-on w c (r .target) (r .source) a (b .men) m (move .target-in) (move .source-in) undo o

@@ -14,7 +14,9 @@ use Rattle.laws.specs.Men.{Man, man, numbered, isPawn}
 use Rattle.laws.specs.Souls.{number}
 use Rattle.laws.specs.Positions.{Pos, retractor}
 use Rattle.laws.specs.Acceptance.{kingsOk, edge, pawnsOk, rightsOk, stateOk, accepted}
-use Rattle.laws.specs.Moves.{Way, plain, passant, castling, goes}
+use Rattle.laws.specs.declared.Way.{Way}
+use Rattle.laws.specs.declared.Way.the-variants.{Plain as plain, Passant as passant, Castle as castling}
+use Rattle.laws.specs.Moves.{goes}
 use Rattle.laws.specs.Unmaking.{before, stateBefore, wayBack, unmade, undoable}
 use Rattle.squares.proofs.Testing.{both, left, right}
 use Rattle.squares.proofs.Every.{all-at, all-of}

@@ -14,7 +14,8 @@ use Rattle.laws.specs.declared.Piece.the-variants.{Pawn, Rook}
 use Rattle.laws.specs.Men.{Man, empty, man, Men, isEmpty, isPawn, put}
 use Rattle.laws.specs.Positions.{corner, rookTo}
 use Rattle.laws.specs.Acceptance.{edge}
-use Rattle.laws.specs.Moves.{Way, plain, passant, castling}
+use Rattle.laws.specs.declared.Way.{Way}
+use Rattle.laws.specs.declared.Way.the-variants.{Plain as plain, Passant as passant, Castle as castling}
 use Rattle.laws.specs.Unmaking.{before, undoable}
 use Rattle.squares.proofs.Testing.{left}
 

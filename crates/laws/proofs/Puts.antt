@@ -10,7 +10,9 @@ use Rattle.geometry.specs.Colors.{opp, behind}
 use Rattle.laws.specs.declared.Piece.the-variants.{Pawn, Rook}
 use Rattle.laws.specs.Men.{Man, empty, man, Men, put}
 use Rattle.laws.specs.Positions.{corner, rookTo}
-use Rattle.laws.specs.Moves.{Way, plain, passant, castling, after}
+use Rattle.laws.specs.declared.Way.{Way}
+use Rattle.laws.specs.declared.Way.the-variants.{Plain as plain, Passant as passant, Castle as castling}
+use Rattle.laws.specs.Moves.{after}
 use Rattle.laws.specs.Unmaking.{before}
 
 pub put-at : (k : ℕ) (x : Man) (m : Men) → put k x m k ≡ x

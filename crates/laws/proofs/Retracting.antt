@@ -7,7 +7,9 @@ use Rattle.geometry.specs.Colors.{opp}
 use Rattle.laws.specs.declared.ChessRetraction.{ChessRetraction}
 use Rattle.laws.specs.Men.{Man, Men, numbered, isOf, put}
 use Rattle.laws.specs.Positions.{Pos, retractor}
-use Rattle.laws.specs.Moves.{Way, plain, passant, castling, way, goes, markOk}
+use Rattle.laws.specs.declared.Way.{Way}
+use Rattle.laws.specs.declared.Way.the-variants.{Plain as plain, Passant as passant, Castle as castling}
+use Rattle.laws.specs.Moves.{way, goes, markOk}
 use Rattle.laws.specs.Unmaking.{uncleared, unfilled, leaving, wayBack, unmade, undoable, promotedTo, retractable}
 use Rattle.squares.proofs.Testing.{left, right}
 use Rattle.laws.proofs.Mans.{same, is-empty}

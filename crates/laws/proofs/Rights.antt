@@ -12,9 +12,13 @@ use Rattle.geometry.specs.Colors.{opp}
 use Rattle.laws.specs.declared.Piece.{Piece}
 use Rattle.laws.specs.declared.Piece.the-variants.{Rook, King}
 use Rattle.laws.specs.Men.{Man, empty, man, Men, sameMan, isEmpty, isOf, colorPlace}
-use Rattle.laws.specs.Positions.{Side, short, long, Rights, kingHome, corner}
+use Rattle.laws.specs.declared.Side.{Side}
+use Rattle.laws.specs.declared.Side.the-variants.{Short as short, Long as long}
+use Rattle.laws.specs.Positions.{Rights, kingHome, corner}
 use Rattle.laws.specs.Acceptance.{rightOk, rightsOk}
-use Rattle.laws.specs.Moves.{Way, plain, passant, castling, keeps, kept}
+use Rattle.laws.specs.declared.Way.{Way}
+use Rattle.laws.specs.declared.Way.the-variants.{Plain as plain, Passant as passant, Castle as castling}
+use Rattle.laws.specs.Moves.{keeps, kept}
 use Rattle.laws.specs.Unmaking.{sameSide, sameRight, regained, held}
 use Rattle.squares.proofs.Testing.{both, left, right, either, or-left, or-right, fails, failed, absorbs, cases}
 use Rattle.laws.proofs.Mans.{same, same-self, same-colour, one-colour}

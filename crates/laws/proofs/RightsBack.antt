@@ -12,9 +12,13 @@ use Rattle.geometry.specs.Colors.{opp, behind}
 use Rattle.laws.specs.declared.Piece.{Piece}
 use Rattle.laws.specs.declared.Piece.the-variants.{Pawn, Knight, Bishop, Rook, Queen, King}
 use Rattle.laws.specs.Men.{Man, empty, man, Men, isEmpty, put}
-use Rattle.laws.specs.Positions.{Side, short, long, Rights, kingHome, corner, rookTo}
+use Rattle.laws.specs.declared.Side.{Side}
+use Rattle.laws.specs.declared.Side.the-variants.{Short as short, Long as long}
+use Rattle.laws.specs.Positions.{Rights, kingHome, corner, rookTo}
 use Rattle.laws.specs.Acceptance.{rightOk, rightsOk}
-use Rattle.laws.specs.Moves.{Way, plain, passant, castling, keeps}
+use Rattle.laws.specs.declared.Way.{Way}
+use Rattle.laws.specs.declared.Way.the-variants.{Plain as plain, Passant as passant, Castle as castling}
+use Rattle.laws.specs.Moves.{keeps}
 use Rattle.laws.specs.Unmaking.{before, sameRight, regained}
 use Rattle.squares.proofs.Testing.{both, left, right, either, or-left, or-right, failed, cases}
 use Rattle.laws.proofs.Mans.{same-self}

@@ -17,7 +17,7 @@ use Rattle.laws.specs.declared.Piece.the-variants.{Pawn}
 use Rattle.laws.specs.declared.EnPassantFlag.the-variants.{Some}
 use Rattle.laws.specs.Men.{Man, empty, man, Men, sameMan, isEmpty, put}
 use Rattle.laws.specs.Acceptance.{stateOk}
-use Rattle.laws.specs.Moves.{passant}
+use Rattle.laws.specs.declared.Way.the-variants.{Passant as passant}
 use Rattle.laws.specs.Unmaking.{before}
 use Rattle.squares.proofs.Testing.{left, right, both}
 use Rattle.squares.proofs.Every.{any-of}

@@ -2,7 +2,7 @@
 use mathlib.Core.Path.{_≡_, refl, sym, ap, _∙_, subst}
 use mathlib.Core.Logic.{_⊎_, inl, inr, _≢_, _↔_}
 use mathlib.Core.Bool.{Bool, true, false, true≢false}
-use mathlib.Core.List.{List, _∷_}
+use mathlib.Core.List.{List, [], _∷_, map}
 use Prim.Native.Nat.{ℕ, zero, suc, _+_, _*_, _/_, _%_, _≤_, _<_}
 use native.Mathlib.Omega.{arith}
 use lib.Dec.{eqb}
@@ -13,13 +13,14 @@ use Rattle.laws.specs.Positions.{Pos}
 use Rattle.laws.specs.Retractions.{InRange}
 use Rattle.laws.specs.Acceptance.{accepted}
 use Rattle.laws.specs.Strictness.{strict, Past}
-use Rattle.laws.specs.StrictLists.{passing, place, placed, strictPlaces, Below, Ascending, In, here, there}
+use Rattle.squares.specs.Members.{numbersFrom}
+use Rattle.laws.specs.StrictLists.{place, retractionAt, strictPlaces, Below, Ascending, In, here, there}
 use Rattle.squares.proofs.Testing.{left}
 use Rattle.squares.proofs.Comprehension.{flag-lt, flag-back}
 use Rattle.laws.proofs.Retracting.{Back, back}
 use Rattle.laws.proofs.Demand3.{demand3}
 
-passing-in : (f : ℕ → Bool) (i n j : ℕ) → i ≤ j → j < i + n → f j ≡ true → In j (passing f i n)
+passing-in : (f : ℕ → Bool) (i n j : ℕ) → i ≤ j → j < i + n → f j ≡ true → In j (numbersFrom f i n)
 passing-in f i zero j l h e = absurd (no l h)
   where
     no : i ≤ j → j < i + 0 → ⊥
@@ -32,20 +33,34 @@ passing-in f i (suc n) j l h e = go (f i) refl (passing-in f (suc i) n j)
     rest : j < suc i + n
     rest = omega arith
 
-    go : (b : Bool) → f i ≡ b → (suc i ≤ j → j < suc i + n → f j ≡ true → In j (passing f (suc i) n))
-        → In j (elim b as (λ _. List ℕ) [ true ↦ i ∷ passing f (suc i) n | false ↦ passing f (suc i) n ])
+    go : (b : Bool) → f i ≡ b → (suc i ≤ j → j < suc i + n → f j ≡ true → In j (numbersFrom f (suc i) n))
+        → In j (elim b as (λ _. List ℕ) [ true ↦ i ∷ numbersFrom f (suc i) n | false ↦ numbersFrom f (suc i) n ])
     go true q ih = at (eqb i j) refl
       where
-        at : (b : Bool) → eqb i j ≡ b → In j (i ∷ passing f (suc i) n)
-        at true z = subst (λ (k : ℕ). In j (k ∷ passing f (suc i) n)) (sym (eqb-true i j z)) here
+        at : (b : Bool) → eqb i j ≡ b → In j (i ∷ numbersFrom f (suc i) n)
+        at true z = subst (λ (k : ℕ). In j (k ∷ numbersFrom f (suc i) n)) (sym (eqb-true i j z)) here
         at false z = there (ih (next (λ k. true≢false (sym (eq-eqb _ _ k) ∙ z))) rest e)
     go false q ih = ih (next (λ z. true≢false (sym e ∙ ap f (sym z) ∙ q))) rest e
 
-in-cases : {j k : ℕ} {is : List ℕ} → In j (k ∷ is) → (j ≡ k) ⊎ In j is
+pub in-cases : {A : Type 0} {x y : A} {l : List A} → In x (y ∷ l) → (x ≡ y) ⊎ In x l
 in-cases here = inl refl
 in-cases (there z) = inr z
 
-in-passes : (f : ℕ → Bool) (i n j : ℕ) → In j (passing f i n) → (i ≤ j) × (j < i + n) × (f j ≡ true)
+-- what is in the list of a function's values
+module _ {A B : Type 0} (f : A → B) where
+  pub map-in : {x : A} {l : List A} → In x l → In (f x) (map f l)
+  map-in here = here
+  map-in (there z) = there (map-in z)
+
+  pub in-map : {y : B} (l : List A) → In y (map f l) → (x : A) × (y ≡ f x) × In x l
+  in-map [] z = elim z [ ]
+  in-map {y} (a ∷ l) z = go (in-cases z) (in-map l)
+    where
+      go : (y ≡ f a) ⊎ In y (map f l) → (In y (map f l) → (x : A) × (y ≡ f x) × In x l) → (x : A) × (y ≡ f x) × In x (a ∷ l)
+      go (inl e) ih = (a, e, here)
+      go (inr w) ih = let q = ih w in (q .0, q .1, there (q .2))
+
+pub in-passes : (f : ℕ → Bool) (i n j : ℕ) → In j (numbersFrom f i n) → (i ≤ j) × (j < i + n) × (f j ≡ true)
 in-passes f i zero j z = elim z [ ]
 in-passes f i (suc n) j z = go (f i) refl z (in-passes f (suc i) n j)
   where
@@ -55,29 +70,29 @@ in-passes f i (suc n) j z = go (f i) refl z (in-passes f (suc i) n j)
     first : j ≡ i → f i ≡ true → (i ≤ j) × (j < i + suc n) × (f j ≡ true)
     first e q = (omega arith, omega arith, ap f e ∙ q)
 
-    go : (b : Bool) → f i ≡ b → In j (elim b as (λ _. List ℕ) [ true ↦ i ∷ passing f (suc i) n | false ↦ passing f (suc i) n ])
-        → (In j (passing f (suc i) n) → (suc i ≤ j) × (j < suc i + n) × (f j ≡ true)) → (i ≤ j) × (j < i + suc n) × (f j ≡ true)
+    go : (b : Bool) → f i ≡ b → In j (elim b as (λ _. List ℕ) [ true ↦ i ∷ numbersFrom f (suc i) n | false ↦ numbersFrom f (suc i) n ])
+        → (In j (numbersFrom f (suc i) n) → (suc i ≤ j) × (j < suc i + n) × (f j ≡ true)) → (i ≤ j) × (j < i + suc n) × (f j ≡ true)
     go true q z ih = which (in-cases z)
       where
-        which : (j ≡ i) ⊎ In j (passing f (suc i) n) → (i ≤ j) × (j < i + suc n) × (f j ≡ true)
+        which : (j ≡ i) ⊎ In j (numbersFrom f (suc i) n) → (i ≤ j) × (j < i + suc n) × (f j ≡ true)
         which (inl e) = first e q
         which (inr k) = wider (ih k)
     go false q z ih = wider (ih z)
 
-passing-below : (f : ℕ → Bool) (k i n : ℕ) → k < i → Below k (passing f i n)
+passing-below : (f : ℕ → Bool) (k i n : ℕ) → k < i → Below k (numbersFrom f i n)
 passing-below f k i zero h = tt
 passing-below f k i (suc n) h = go (f i) (passing-below f k (suc i) n (omega arith))
   where
-    go : (b : Bool) → Below k (passing f (suc i) n) → Below k (elim b as (λ _. List ℕ) [ true ↦ i ∷ passing f (suc i) n | false ↦ passing f (suc i) n ])
+    go : (b : Bool) → Below k (numbersFrom f (suc i) n) → Below k (elim b as (λ _. List ℕ) [ true ↦ i ∷ numbersFrom f (suc i) n | false ↦ numbersFrom f (suc i) n ])
     go true z = (h, z)
     go false z = z
 
 -- in order, and once
-pub ascending : (f : ℕ → Bool) (i n : ℕ) → Ascending (passing f i n)
+pub ascending : (f : ℕ → Bool) (i n : ℕ) → Ascending (numbersFrom f i n)
 ascending f i zero = tt
 ascending f i (suc n) = go (f i) (ascending f (suc i) n)
   where
-    go : (b : Bool) → Ascending (passing f (suc i) n) → Ascending (elim b as (λ _. List ℕ) [ true ↦ i ∷ passing f (suc i) n | false ↦ passing f (suc i) n ])
+    go : (b : Bool) → Ascending (numbersFrom f (suc i) n) → Ascending (elim b as (λ _. List ℕ) [ true ↦ i ∷ numbersFrom f (suc i) n | false ↦ numbersFrom f (suc i) n ])
     go true z = (passing-below f i (suc i) n (omega arith), z)
     go false z = z
 
@@ -88,7 +103,7 @@ digits : (s t u x : ℕ) → s < 64 → t < 64 → u ≤ 5 → x < 2
     × (s * 768 + (t * 12 + (u * 2 + x)) < 49152)
 digits s t u x hs ht hu hx = omega arith
 
-pub placed-place : (r : ChessRetraction) → InRange r → placed (place r) ≡ r
+pub placed-place : (r : ChessRetraction) → InRange r → retractionAt (place r) ≡ r
 placed-place r h = λ i. record { source = d .0 i; target = d .1 i; uncaptured = d .2 i; unpromotion = mark i }
   where
     d : (place r / 768 ≡ r .source) × (place r / 12 % 64 ≡ r .target) × (place r / 2 % 6 ≡ r .uncaptured) × (place r % 2 ≡ flag (r .unpromotion)) × (place r < 49152)
@@ -107,7 +122,7 @@ strict-in p r h = record { source-in = b .can .source-in; target-in = b .can .ta
     b = back p r (left _ _ (left _ _ (left _ _ (left _ _ h))))
 
 pub strict-order : (p : Pos) → Ascending (strictPlaces p)
-strict-order p = ascending (λ i. strict p (placed i)) 0 49152
+strict-order p = ascending (λ i. strict p (retractionAt i)) 0 49152
 
 -- it holds the place of a strict retraction, and nothing else
 pub strict-member : (p : Pos) (r : ChessRetraction) → InRange r → In (place r) (strictPlaces p) ↔ (strict p r ≡ true)
@@ -117,7 +132,7 @@ strict-member p r h = (
 )
   where
     test : ℕ → Bool
-    test i = strict p (placed i)
+    test i = strict p (retractionAt i)
 
 pub strict-holds : (p : Pos) (r : ChessRetraction) → accepted p ≡ true → InRange r → In (place r) (strictPlaces p) ↔ Past p r
 strict-holds p r ok h = (λ z. demand3 p r ok .0 (strict-member p r h .0 z), λ z. strict-member p r h .1 (demand3 p r ok .1 z))

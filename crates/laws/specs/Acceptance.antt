@@ -14,7 +14,9 @@ use Rattle.laws.specs.declared.EnPassantFlag.the-variants.{Any, Some, No
 use Rattle.laws.specs.Men.{Man, man, Men, sameMan, isEmpty, isPawn}
 use Rattle.laws.specs.Attacks.{attacked}
 use Rattle.laws.specs.Souls.{number}
-use Rattle.laws.specs.Positions.{Side, short, long, Rights, Pos, kingHome, corner}
+use Rattle.laws.specs.declared.Side.{Side}
+use Rattle.laws.specs.declared.Side.the-variants.{Short as short, Long as long}
+use Rattle.laws.specs.Positions.{Rights, Pos, kingHome, corner}
 
 -- 2 KINGS: "a colour has no king or more than one"
 abbrev pub kingsOk : Men → Bool

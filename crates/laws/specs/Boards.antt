@@ -14,10 +14,12 @@ use Rattle.laws.specs.declared.Piece.{Piece}
 use Rattle.laws.specs.declared.Piece.the-variants.{Pawn, Knight, Bishop, Rook, Queen, King}
 use Rattle.laws.specs.declared.CastleRights.{CastleRights}
 use Rattle.laws.specs.declared.EnPassantFlag.{EnPassantFlag}
+use Rattle.laws.specs.declared.Position.{Position}
 use Rattle.laws.specs.declared.ChessRetraction.{ChessRetraction}
 use Rattle.laws.specs.Men.{Man, empty, man, Men, colorPlace, kindPlace, isOf, isKind}
 use Rattle.laws.specs.Attacks.{unionOf, checkersOf, pinsOf}
-use Rattle.laws.specs.Positions.{short, long, Pos, rightsOf, rightsFor}
+use Rattle.laws.specs.declared.Side.the-variants.{Short as short, Long as long}
+use Rattle.laws.specs.Positions.{Pos, rightsOf, rightsFor}
 use Rattle.laws.specs.Acceptance.{accepted}
 use Rattle.laws.specs.Strictness.{Gives}
 
@@ -78,6 +80,13 @@ pub record Clean (pieces colors : List ℕ) : Type 0 where
   pub kinds : pieces ≡ kindSets (menAt pieces colors)
   pub colours : colors ≡ colorSets (menAt pieces colors)
 
+-- what stands on each square of a position held as sets, and the Laws' position that its fields show
+abbrev pub menIn : Position → Men
+menIn p = menAt (p .pieces) (p .colors)
+
+abbrev pub posAt : Position → Pos
+posAt p = record { men = menIn p; turn = p .turn; rights = rightsOf (p .white) (p .black); state = p .passant }
+
 pub record Board : Type 0 where
   pub pieces : List ℕ
   pub colors : List ℕ
@@ -89,8 +98,12 @@ pub record Board : Type 0 where
   pub checkers : ℕ
   pub passant : EnPassantFlag
 
+-- its fields without the worked-out ones, and the position that they show
+abbrev pub fieldsOf : Board → Position
+fieldsOf b = record { pieces = b .pieces; colors = b .colors; turn = b .turn; white = b .white; black = b .black; passant = b .passant }
+
 abbrev pub posOf : Board → Pos
-posOf b = record { men = menAt (b .pieces) (b .colors); turn = b .turn; rights = rightsOf (b .white) (b .black); state = b .passant }
+posOf b = posAt (fieldsOf b)
 
 -- six sets and two, of 64 squares each
 pub record Shaped (b : Board) : Type 0 where

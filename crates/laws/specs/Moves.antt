@@ -10,16 +10,15 @@ use Rattle.geometry.specs.Steps.{pawnStep, pawnDouble, pawnTakes}
 use Rattle.laws.specs.declared.Piece.the-variants.{Pawn, Knight, Bishop, Rook, Queen, King}
 use Rattle.laws.specs.declared.EnPassantFlag.{EnPassantFlag}
 use Rattle.laws.specs.declared.EnPassantFlag.the-variants.{Any, Some, None}
+use Rattle.laws.specs.declared.Way.{Way}
+use Rattle.laws.specs.declared.Way.the-variants.{Plain as plain, Passant as passant, Castle as castling}
 use Rattle.laws.specs.declared.ChessRetraction.{ChessRetraction}
 use Rattle.laws.specs.Men.{Man, empty, man, Men, numbered, sameMan, isOf, isPawn, bare, put}
 use Rattle.laws.specs.Attacks.{attacks, attacked}
-use Rattle.laws.specs.Positions.{Side, short, long, Rights, Pos, kingHome, corner, kingTo, rookTo}
+use Rattle.laws.specs.declared.Side.{Side}
+use Rattle.laws.specs.declared.Side.the-variants.{Short as short, Long as long}
+use Rattle.laws.specs.Positions.{Rights, Pos, kingHome, corner, kingTo, rookTo}
 use Rattle.laws.specs.Acceptance.{beside, quiet}
-
--- what a move changes beside its two squares: nothing, a pawn taken en passant, the rook of a castling
-pub data Way : Type 0 where
-  plain passant : Way
-  castling : Side → Way
 
 -- the way of the man x from t to s, taking the man numbered u: a pawn that takes nothing on another file takes en passant, and
 -- a king that goes from its home to g or c castles

@@ -4,14 +4,12 @@ use Prim.Native.Nat.{ℕ}
 use Rattle.geometry.specs.declared.Color.{Color}
 use Rattle.geometry.specs.declared.Color.the-variants.{White, Black}
 use Rattle.geometry.specs.Colors.{opp, homeSquare}
+use Rattle.laws.specs.declared.Side.{Side}
+use Rattle.laws.specs.declared.Side.the-variants.{Short as short, Long as long}
 use Rattle.laws.specs.declared.CastleRights.{CastleRights}
 use Rattle.laws.specs.declared.CastleRights.the-variants.{NoRights, KingSide, QueenSide, Both}
 use Rattle.laws.specs.declared.EnPassantFlag.{EnPassantFlag}
 use Rattle.laws.specs.Men.{Men}
-
--- the king's side and the queen's side
-pub data Side : Type 0 where
-  short long : Side
 
 -- the right of a colour to castle on a side
 abbrev pub Rights : Type 0

@@ -11,7 +11,8 @@ use Rattle.laws.specs.declared.ChessRetraction.{ChessRetraction}
 use Rattle.laws.specs.Souls.{soulsOk}
 use Rattle.laws.specs.Positions.{Pos, retractor}
 use Rattle.laws.specs.Acceptance.{accepted}
-use Rattle.laws.specs.Moves.{Way, stateAfter, replayed, safe, legal}
+use Rattle.laws.specs.declared.Way.{Way}
+use Rattle.laws.specs.Moves.{stateAfter, replayed, safe, legal}
 use Rattle.laws.specs.Unmaking.{unmadeBy, wayBack, retractable}
 
 -- today's state, unless unknown, is the one after the move
@@ -24,11 +25,15 @@ agrees (Some q) Any = false
 agrees (Some q) None = false
 agrees (Some q) (Some q′) = eqb q q′
 
+-- what an earlier board must have to count: "souls at most 8 on each side"
+abbrev pub counts : Pos → Bool
+counts e = soulsOk (e .men)
+
 -- "some accepted earlier board with souls at most 8 a side has that move as a legal one, and the move gives today's men, turn, castling
 -- rights and, unless unknown, today's en passant state": e is that board, p today's, k the kind promoted to
 pub record Gives (e p : Pos) (r : ChessRetraction) (k : ℕ) : Type 0 where
   pub isAccepted : accepted e ≡ true
-  pub fewSouls : soulsOk (e .men) ≡ true
+  pub isCounted : counts e ≡ true
   pub isLegal : legal e r k ≡ true
   pub sameMen : replayed e r k .men ≡ p .men
   pub sameTurn : replayed e r k .turn ≡ p .turn
@@ -38,10 +43,10 @@ pub record Gives (e p : Pos) (r : ChessRetraction) (k : ℕ) : Type 0 where
 abbrev pub Past : Pos → ChessRetraction → Type 0
 Past p r = (e : Pos) × (k : ℕ) × Gives e p r k
 
--- the test: un-make succeeds (9 to 12), the un-made board is accepted and has few souls, castling is safe, and the state agrees
+-- the test: un-make succeeds (9 to 12), the un-made board is accepted and counts, castling is safe, and the state agrees
 abbrev pub strictBy : Way → Color → Pos → Pos → ChessRetraction → Bool
 strictBy w c e p r =
-    retractable w c e p r and accepted e and soulsOk (e .men) and safe (e .men) w c
+    retractable w c e p r and accepted e and counts e and safe (e .men) w c
     and agrees (p .state) (stateAfter (e .men) (e .men (r .target)) (r .target) (r .source))
 
 abbrev pub strict : Pos → ChessRetraction → Bool

@@ -10,9 +10,13 @@ use Rattle.laws.specs.declared.EnPassantFlag.{EnPassantFlag}
 use Rattle.laws.specs.declared.EnPassantFlag.the-variants.{Any, Some}
 use Rattle.laws.specs.declared.ChessRetraction.{ChessRetraction}
 use Rattle.laws.specs.Men.{Man, empty, man, Men, kindNumber, numbered, sameMan, isEmpty, isOf, isPawn, put, colorPlace}
-use Rattle.laws.specs.Positions.{Side, short, long, Rights, Pos, retractor, kingHome, corner, rookTo}
+use Rattle.laws.specs.declared.Side.{Side}
+use Rattle.laws.specs.declared.Side.the-variants.{Short as short, Long as long}
+use Rattle.laws.specs.Positions.{Rights, Pos, retractor, kingHome, corner, rookTo}
 use Rattle.laws.specs.Acceptance.{edge}
-use Rattle.laws.specs.Moves.{Way, plain, passant, castling, way, possible}
+use Rattle.laws.specs.declared.Way.{Way}
+use Rattle.laws.specs.declared.Way.the-variants.{Plain as plain, Passant as passant, Castle as castling}
+use Rattle.laws.specs.Moves.{way, possible}
 
 -- the square that un-make clears beside s, and then the one that it fills beside t
 abbrev pub uncleared : Way → Color → Men → Men

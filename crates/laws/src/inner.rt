@@ -3,6 +3,8 @@ use super::ChessRetraction;
 ghost use mathlib.Core.Path.{_≡_};
 ghost use Rattle.laws.specs.Retractions.{packed, InRange};
 
+pub mod castling; // castling.rt: rights, and where king and rook castle between
+
 pub fn pack(r: ChessRetraction) -> u16
     requires { ⌜ InRange r ⌝ }
     ensures { λ n. ⌜ n ≡ packed r ⌝ }

@@ -3,7 +3,7 @@ pub use geometry::Color;
 ghost use mathlib.Core.Path.{_≡_};
 ghost use Rattle.laws.specs.Retractions.{unpacked};
 
-pub mod inner; // inner.rt: packing into 16 bits
+pub mod inner; // inner.rt: packing into 16 bits; inner/castling.rt: rights and homes
 
 pub enum Piece {
     Pawn,
@@ -22,11 +22,34 @@ pub enum CastleRights {
     Both,
 }
 
+// The king's side and the queen's side.
+pub enum Side {
+    Short,
+    Long,
+}
+
+// What a move changes beside its two squares: nothing, a pawn taken en passant, the rook of a castling.
+pub enum Way {
+    Plain,
+    Passant,
+    Castle(Side),
+}
+
 // The en passant state: unknown, the square of the pawn that has just made a double step, or none.
 pub enum EnPassantFlag {
     Any,
     Some(u8),
     None,
+}
+
+// A board's fields without the worked-out ones: the sets of the men by kind and by colour, the turn, each colour's rights and the state.
+pub struct Position {
+    pub pieces: [u64; 6],
+    pub colors: [u64; 2],
+    pub turn: Color,
+    pub white: CastleRights,
+    pub black: CastleRights,
+    pub passant: EnPassantFlag,
 }
 
 // A man goes back from the source (today) to the target (earlier); `uncaptured` is the number of the man that reappears on the source.

@@ -5,28 +5,26 @@ use mathlib.Core.List.{List, [], _∷_}
 use Prim.Native.Nat.{ℕ}
 use lib.Dec.{leb}
 use lib.ListN.{length}
-use Rattle.geometry.specs.declared.Color.{Color}
-use Rattle.laws.specs.declared.EnPassantFlag.{EnPassantFlag}
-use Rattle.accept.specs.declared.Refusal.{Refusal}
-use Rattle.accept.specs.declared.Refusal.the-variants.{Full}
-use Rattle.accept.specs.declared.Verdict.{Verdict}
-use Rattle.accept.specs.declared.Verdict.the-variants.{Accepted, Refused as refused}
-use Rattle.accept.specs.Said.{_else_, firstFailing, Said, told, refusal, behind}
+use Rattle.refusal.specs.declared.Refusal.{Refusal}
+use Rattle.refusal.specs.declared.Refusal.the-variants.{Full}
+use Rattle.refusal.specs.declared.Verdict.{Verdict}
+use Rattle.refusal.specs.declared.Verdict.the-variants.{Accepted, Refused as refused}
+use Rattle.refusal.specs.Said.{_else_, firstFailing, Said, told, refusal, behind}
 use Rattle.board.specs.declared.RetractableBoard.{RetractableBoard}
 use Rattle.board.specs.Gate.{gateOf, boardTests}
-use Rattle.roll.specs.declared.RetractionList.{RetractionList}
-use Rattle.roll.specs.Roll.{holding, answerOf}
-use Rattle.masks.specs.Masks.{masksOf}
+use Rattle.retraction_list.specs.declared.RetractionList.{RetractionList}
+use Rattle.retraction_list.specs.Entries.{holding}
+use Rattle.retraction_list.specs.inner.Pushing.{answerOf}
 use Rattle.retraction_gen.specs.declared.Next.{Next}
 use Rattle.retraction_gen.specs.declared.Next.the-variants.{Retraction, End}
 use Rattle.retraction_gen.specs.declared.Stepped.{Stepped}
-use Rattle.retraction_gen.specs.Making.{startOf, fullTest}
+use Rattle.retraction_gen.specs.Making.{masksOn, startOf, fullTest}
 use Rattle.retraction_gen.specs.Cursors.{nextSays, nextOf, Steps}
 use Rattle.limited.specs.declared.Limited.{Limited}
 use Rattle.limited.specs.declared.Limited.the-variants.{Yes, No, Refused}
-use Rattle.limited.specs.Limiting.{limitedSays, isNone, officersOn, nothingOn, sideOf, limitedFrom, limitedOf}
-use Rattle.accept.proofs.Saying.{behind-by}
-use Rattle.accept.proofs.Writing.{no-value, no-both}
+use Rattle.limited.specs.Limiting.{limitedSays, isNone, pawnlessOn, nothingOn, sideOf, limitedFrom, limitedOf}
+use Rattle.refusal.proofs.Saying.{behind-by}
+use Rattle.refusal.proofs.Writing.{no-value, no-both}
 use Rattle.board.proofs.Numbers.{gate-refuses, gate-passes}
 use Rattle.retraction_gen.proofs.Filled.{held-is, full-fails, held-passes}
 
@@ -39,20 +37,20 @@ next-by : (x : Next) → limitedSays (byNext x) ≡ cond (isNone (nextSays x)) (
 next-by (Retraction r) = refl
 next-by End = refl
 
-module _ (b : RetractableBoard) (c : Color) (st : EnPassantFlag) (l : RetractionList) (e : l ≡ answerOf (officersOn b c st)) where
-  pub side-full : l .full ≡ true → limitedSays (Refused Full) ≡ sideOf b c st (told (0 ∷ []))
+module _ (b : RetractableBoard) (l : RetractionList) (e : l ≡ answerOf (pawnlessOn b)) where
+  pub side-full : l .full ≡ true → limitedSays (Refused Full) ≡ sideOf b (told (0 ∷ []))
   unfolding sideOf
-  side-full f = behind-by (refused Full) (fullTest (officersOn b c st)) _ (full-fails (officersOn b c st) l e f)
+  side-full f = behind-by (refused Full) (fullTest (pawnlessOn b)) _ (full-fails (pawnlessOn b) l e f)
 
-  pub side-held : (ms : List ℕ) (s : Stepped) (x : Next) → l .full ≡ false → ms ≡ masksOf (b .pieces) (b .colors) c → Steps (startOf l ms) s → s .next ≡ x
-      → limitedSays (byNext x) ≡ sideOf b c st (told (0 ∷ []))
+  pub side-held : (ms : List ℕ) (s : Stepped) (x : Next) → l .full ≡ false → ms ≡ masksOn b → Steps (startOf l ms) s → s .next ≡ x
+      → limitedSays (byNext x) ≡ sideOf b (told (0 ∷ []))
   unfolding sideOf nothingOn
   side-held ms s x f m n k =
       next-by x
       ∙ ap (λ (y : Said). cond (isNone y) (told (1 ∷ [])) (told (0 ∷ [])))
-      (ap nextSays (sym k) ∙ n .answer ∙ ap (λ (q : RetractionList). nextOf (startOf q ms) .said) (held-is (officersOn b c st) l e f)
-      ∙ ap (λ (q : List ℕ). nextOf (startOf (holding (officersOn b c st)) q) .said) m)
-      ∙ behind-by Accepted (fullTest (officersOn b c st)) _ (sym (held-passes (officersOn b c st) l e f))
+      (ap nextSays (sym k) ∙ n .answer ∙ ap (λ (q : RetractionList). nextOf (startOf q ms) .said) (held-is (pawnlessOn b) l e f)
+      ∙ ap (λ (q : List ℕ). nextOf (startOf (holding (pawnlessOn b)) q) .said) m)
+      ∙ behind-by Accepted (fullTest (pawnlessOn b)) _ (sym (held-passes (pawnlessOn b) l e f))
 
 -- what is said by the first side, or, where it has something to give, x
 abbrev pub orElse : Limited → Said → Said
@@ -73,9 +71,9 @@ sides-by true false x Yes e = no-both e
 sides-by true false x No e = refl
 sides-by true false x (Refused why) e = no-value (sym e)
 
-pub side-then : (b : RetractableBoard) (c : Color) (st : EnPassantFlag) (x : Said) (r : Limited) → limitedSays r ≡ sideOf b c st (told (0 ∷ [])) → orElse r x ≡ sideOf b c st x
+pub side-then : (b : RetractableBoard) (x : Said) (r : Limited) → limitedSays r ≡ sideOf b (told (0 ∷ [])) → orElse r x ≡ sideOf b x
 unfolding sideOf
-side-then b c st x r e = sides-by (leb (length (officersOn b c st)) 47) (nothingOn b c st) x r e
+side-then b x r e = sides-by (leb (length (pawnlessOn b)) 47) (nothingOn b) x r e
 
 -- behind the gate
 module _ (b : RetractableBoard) (v : Verdict) (e : v ≡ gateOf b) where

@@ -6,19 +6,17 @@ use native.Mathlib.Omega.{arith}
 use lib.Dec.{eqb, leb}
 use lib.ListN.{length}
 use Rattle.squares.specs.Tests.{_and_, _or_}
-use Rattle.geometry.specs.Colors.{opp}
-use Rattle.laws.specs.declared.EnPassantFlag.the-variants.{Any}
-use Rattle.accept.specs.declared.Refusal.the-variants.{Full}
-use Rattle.accept.specs.Said.{_else_, firstFailing, Said, numberSaid, told, behind}
+use Rattle.refusal.specs.declared.Refusal.the-variants.{Full}
+use Rattle.refusal.specs.Said.{_else_, firstFailing, Said, numberSaid, told, behind}
 use Rattle.board.specs.declared.RetractableBoard.{RetractableBoard}
 use Rattle.board.specs.Gate.{boardTests}
 use Rattle.limited.specs.declared.Limited.{Limited}
 use Rattle.limited.specs.declared.Limited.the-variants.{Yes, No, Refused}
-use Rattle.limited.specs.Limiting.{limitedSays, isNamed, officersOn, nothingOn, sideOf, sidesOf, limitedFrom, limitedOf}
+use Rattle.limited.specs.Limiting.{limitedSays, namesSquare, flipped, pawnlessOn, nothingOn, sideOf, sidesOf, limitedFrom, limitedOf}
 use Rattle.squares.proofs.Testing.{agree, agree-eq}
 use Rattle.laws.proofs.Cases.{by-cases}
-use Rattle.accept.proofs.Saying.{number-one}
-use Rattle.accept.proofs.Writing.{no-value, no-both}
+use Rattle.refusal.proofs.Saying.{number-one}
+use Rattle.refusal.proofs.Writing.{no-value, no-both}
 use Rattle.board.proofs.Numbers.{above-seven}
 
 -- what is said behind 1 to 7: at once; the first list fits, and has nothing; the second fits, and has nothing
@@ -32,17 +30,17 @@ module _ (b : RetractableBoard) (r : Limited) (h : limitedSays r ≡ limitedOf b
 
   -- answered before any list
   abbrev at-once : Bool
-  at-once = not (eqb (b .checkers) 0) or isNamed (b .passant)
+  at-once = not (eqb (b .checkers) 0) or namesSquare (b .passant)
 
   -- the first list, and the second
   abbrev fits : Bool
-  fits = leb (length (officersOn b (b .turn) (b .passant))) 47
+  fits = leb (length (pawnlessOn b)) 47
 
   abbrev none : Bool
-  none = nothingOn b (b .turn) (b .passant)
+  none = nothingOn b
 
   abbrev fits′ : Bool
-  fits′ = leb (length (officersOn b (opp (b .turn)) Any)) 47
+  fits′ = leb (length (pawnlessOn (flipped b))) 47
 
   -- 8: 1 to 7 pass, a list is built, and the first would need a 48th entry, or it does not and gives something, and the second would
   pub full-exactly : eqb (numberSaid (limitedSays r)) 8 ≡ (accepted and not at-once and (not fits or (fits and not none and not fits′)))
@@ -50,7 +48,7 @@ module _ (b : RetractableBoard) (r : Limited) (h : limitedSays r ≡ limitedOf b
   full-exactly =
       ap (λ (x : Said). eqb (numberSaid x) 8) h ∙ above-seven b (limitedFrom b) 8 (omega arith)
       ∙ agree-eq _ _ (by-cases 6 (λ a q f n g m. agree (a and eqb (numberSaid (saidBy q f n g m)) 8) (a and not q and (not f or (f and not n and not g)))) refl
-      accepted at-once fits none fits′ (nothingOn b (opp (b .turn)) Any))
+      accepted at-once fits none fits′ (nothingOn (flipped b)))
 
 -- what is said settles the answer
 limited-one : (r q : Limited) → limitedSays r ≡ limitedSays q → r ≡ q

@@ -1,15 +1,14 @@
 // `is_limited_in_retractions` of the Rust's retraction_gen.rs.
-use accept::Refusal;
-use accept::Verdict;
 use board::RetractableBoard;
-use laws::Color;
 use laws::EnPassantFlag;
+use refusal::Refusal;
+use refusal::Verdict;
 use retraction_gen::Next;
 ghost use mathlib.Core.Path.{_≡_};
 ghost use mathlib.Core.List.{[], _∷_};
 ghost use Rattle.geometry.specs.Lines.{IsBetween};
-ghost use Rattle.accept.specs.Said.{told};
-ghost use Rattle.limited.specs.Limiting.{limitedSays, isNamed, sideOf, sidesOf, limitedFrom, limitedOf};
+ghost use Rattle.refusal.specs.Said.{told};
+ghost use Rattle.limited.specs.Limiting.{limitedSays, namesSquare, flipped, sideOf, sidesOf, limitedFrom, limitedOf};
 
 pub enum Limited {
     Yes,
@@ -17,8 +16,8 @@ pub enum Limited {
     Refused(Refusal),
 }
 
-fn is_named(passant: EnPassantFlag) -> bool
-    ensures { λ r. ⌜ r ≡ isNamed passant ⌝ }
+fn names_a_square(passant: EnPassantFlag) -> bool
+    ensures { λ r. ⌜ r ≡ namesSquare passant ⌝ }
 {
     match passant {
         EnPassantFlag::Any => false,
@@ -27,31 +26,39 @@ fn is_named(passant: EnPassantFlag) -> bool
     }
 }
 
-// Whether the side that does not have the turn has no officer retraction; checkers and pins stay as they are.
-fn side(t: &[u64; 4096], b: RetractableBoard, turn: Color, passant: EnPassantFlag) -> Limited
-    requires { ⌜ IsBetween (now t) ⌝ }
-    ensures { λ r. ⌜ limitedSays r ≡ sideOf b turn passant (told (0 ∷ [])) ⌝ }
+// The Rust's `flip`: the turn goes to the other side, the state becomes unknown, and checkers and pins stay as they are.
+fn flip(b: RetractableBoard) -> RetractableBoard
+    ensures { λ r. ⌜ r ≡ flipped b ⌝ }
 {
     let pieces = b.pieces;
     let colors = b.colors;
+    let turn = b.turn;
     let white = b.white;
     let black = b.black;
-    let list = enumerate::inner::officer_list(
-        t,
+    RetractableBoard {
         pieces,
         colors,
-        b.combined,
-        turn,
+        combined: b.combined,
+        turn: geometry::other(turn),
         white,
         black,
-        b.pinned,
-        b.checkers,
-        passant,
-    );
+        pinned: b.pinned,
+        checkers: b.checkers,
+        passant: EnPassantFlag::Any,
+    }
+}
+
+// Whether the side that does not have the turn has no retraction but of pawns.
+fn side(t: &[u64; 4096], b: RetractableBoard) -> Limited
+    requires { ⌜ IsBetween (now t) ⌝ }
+    ensures { λ r. ⌜ limitedSays r ≡ sideOf b (told (0 ∷ [])) ⌝ }
+{
+    let v = retraction_gen::inner::seen(b);
+    let list = enumerate::inner::all_but_pawns(t, v);
     if list.full {
         return Limited::Refused(Refusal::Full);
     }
-    let masks = masks::inner::candidates(pieces, colors, turn);
+    let masks = uncaptured::inner::candidates(board::inner::position_of(b));
     let g = retraction_gen::inner::started(list, masks);
     let s = g.next();
     let answer = s.next;
@@ -66,13 +73,11 @@ fn sides(t: &[u64; 4096], b: RetractableBoard) -> Limited
     requires { ⌜ IsBetween (now t) ⌝ }
     ensures { λ r. ⌜ limitedSays r ≡ sidesOf b ⌝ }
 {
-    let turn = b.turn;
-    let passant = b.passant;
-    let first = side(t, b, turn, passant);
+    let first = side(t, b);
     match first {
         Limited::Yes => Limited::Yes,
         Limited::Refused(why) => Limited::Refused(why),
-        Limited::No => side(t, b, geometry::other(turn), EnPassantFlag::Any),
+        Limited::No => side(t, flip(b)),
     }
 }
 
@@ -82,7 +87,7 @@ fn limited_from(t: &[u64; 4096], b: RetractableBoard) -> Limited
     ensures { λ r. ⌜ limitedSays r ≡ limitedFrom b ⌝ }
 {
     let passant = b.passant;
-    if (b.checkers != 0) | is_named(passant) {
+    if (b.checkers != 0) | names_a_square(passant) {
         return Limited::Yes;
     }
     sides(t, b)

@@ -7,18 +7,17 @@ use native.Mathlib.Omega.{arith}
 use lib.Dec.{lit<}
 use lib.ListN.{length, length-append, length-map}
 use Rattle.squares.specs.Squares.{has}
-use Rattle.squares.specs.Members.{listTo, members, concat}
+use Rattle.squares.specs.Members.{listTo, members, concat, numbersFrom}
 use Rattle.laws.specs.declared.ChessRetraction.{ChessRetraction}
-use Rattle.roll.specs.declared.SourceAndTargets.{SourceAndTargets}
-use Rattle.retraction_gen.specs.Cursors.{passing, passedTo, uncapturedTo}
-use Rattle.retraction_gen.specs.Sequence.{numbersFrom, allowed, atTarget, sequenceOf}
+use Rattle.retraction_list.specs.declared.SourceAndTargets.{SourceAndTargets}
+use Rattle.retraction_gen.specs.Cursors.{isUnEnPassant, unEnPassantTo, uncapturedTo}
+use Rattle.retraction_gen.specs.Sequence.{allowed, atTarget, sequenceOf}
 
-numbers-le : (n u : ℕ) (p : ℕ → Bool) → length (numbersFrom n u p) ≤ n
-unfolding numbersFrom
+numbers-le : (n u : ℕ) (p : ℕ → Bool) → length (numbersFrom p u n) ≤ n
 numbers-le zero u p = le-refl 0
 numbers-le (suc n) u p = go (p u) (numbers-le n (suc u) p)
   where
-    go : (t : Bool) → length (numbersFrom n (suc u) p) ≤ n → length (cond t (u ∷ numbersFrom n (suc u) p) (numbersFrom n (suc u) p)) ≤ suc n
+    go : (t : Bool) → length (numbersFrom p (suc u) n) ≤ n → length {A = ℕ} (elim t as (λ _. List ℕ) [ true ↦ u ∷ numbersFrom p (suc u) n | false ↦ numbersFrom p (suc u) n ]) ≤ suc n
     go true h = suc-le-suc h
     go false h = le-trans h (le-suc n)
 
@@ -32,11 +31,11 @@ list-le (suc n) p = go (p n) (list-le n p)
     go false h = omega (arith, length-append (listTo n p) [])
 
 target-le : (ms : List ℕ) (e : SourceAndTargets) (t : ℕ) → length (atTarget ms e t) ≤ 6
-target-le ms e t = go (passing (e .kind))
+target-le ms e t = go (isUnEnPassant (e .kind))
   where
-    go : (p : Bool) → length (cond p (passedTo e t ∷ []) (map (uncapturedTo e t) (numbersFrom 6 0 (allowed ms e)))) ≤ 6
+    go : (p : Bool) → length (cond p (unEnPassantTo e t ∷ []) (map (uncapturedTo e t) (numbersFrom (allowed ms e) 0 6))) ≤ 6
     go true = omega arith
-    go false = omega (arith, length-map (numbersFrom 6 0 (allowed ms e)) (uncapturedTo e t), numbers-le 6 0 (allowed ms e))
+    go false = omega (arith, length-map (numbersFrom (allowed ms e) 0 6) (uncapturedTo e t), numbers-le 6 0 (allowed ms e))
 
 concat-le : (f : ℕ → List ChessRetraction) (ks : List ℕ) → ((k : ℕ) → length (f k) ≤ 6) → length (concat f ks) ≤ length ks * 6
 unfolding concat

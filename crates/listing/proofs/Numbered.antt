@@ -8,15 +8,15 @@ use lib.Dec.{eqb, leb}
 use lib.ListN.{length, length-map}
 use Rattle.squares.specs.Tests.{_and_}
 use Rattle.laws.specs.Retractions.{packed}
-use Rattle.accept.specs.declared.Refusal.the-variants.{Full}
-use Rattle.accept.specs.Said.{_else_, firstFailing, Said, says, numberSaid, told, fitting, behind, Writes}
+use Rattle.refusal.specs.declared.Refusal.the-variants.{Full}
+use Rattle.refusal.specs.Said.{_else_, firstFailing, Said, says, numberSaid, told, fitting, behind, Writes}
 use Rattle.board.specs.declared.RetractableBoard.{RetractableBoard}
 use Rattle.board.specs.Gate.{boardTests}
 use Rattle.retraction_gen.specs.Making.{listOn, fullTest, listTests}
 use Rattle.retraction_gen.specs.Sequence.{sequenceOn}
-use Rattle.listing.specs.declared.Listed.{Listed}
-use Rattle.listing.specs.Listing.{listedSays}
-use Rattle.accept.proofs.Tested.{behind-more}
+use Rattle.slots.specs.declared.Listed.{Listed}
+use Rattle.slots.specs.Slots.{listedSays}
+use Rattle.refusal.proofs.Tested.{behind-more}
 use Rattle.board.proofs.Numbers.{above-seven}
 
 -- what is said behind 1 to 7: the list fits, or doesn't, and its sequence of n has room, or hasn't

@@ -1,30 +1,42 @@
--- From the cursor that `new_legal` makes to the answer.
-use mathlib.Core.Path.{_≡_, sym, ap, _∙_, subst}
+-- From the gate, and from the cursor of a board that it let pass, to the answer.
+use mathlib.Core.Path.{_≡_, refl, sym, ap, _∙_, subst}
 use mathlib.Core.Bool.{true}
 use mathlib.Core.List.{List, [], map}
 use Prim.Native.Nat.{ℕ, _<_, _^_}
 use lib.ListN.{length}
 use Rattle.laws.specs.declared.ChessRetraction.{ChessRetraction}
 use Rattle.laws.specs.Retractions.{packed}
-use Rattle.accept.specs.declared.Refusal.{Refusal}
-use Rattle.accept.specs.declared.Verdict.the-variants.{Accepted, Refused}
-use Rattle.accept.specs.Verdicts.{verdictNumber}
-use Rattle.accept.specs.Said.{Writes}
+use Rattle.refusal.specs.declared.Refusal.{Refusal}
+use Rattle.refusal.specs.declared.Verdict.{Verdict}
+use Rattle.refusal.specs.declared.Verdict.the-variants.{Accepted, Refused}
+use Rattle.refusal.specs.Refusals.{verdictNumber}
+use Rattle.refusal.specs.Said.{Writes}
 use Rattle.board.specs.declared.RetractableBoard.{RetractableBoard}
+use Rattle.board.specs.Gate.{gateOf, boardTests}
 use Rattle.retraction_gen.specs.declared.Made.{Made}
-use Rattle.retraction_gen.specs.Making.{listOn, masksOn, listTests, cursorOn, Makes}
+use Rattle.retraction_gen.specs.Making.{listOn, masksOn, fullTest, listTests, cursorOn, Makes}
 use Rattle.retraction_gen.specs.Cursors.{wellFormed}
 use Rattle.retraction_gen.specs.Sequence.{sequenceOn}
-use Rattle.retraction_gen.specs.Rest.{restOf}
-use Rattle.listing.specs.declared.Listed.{Listed}
-use Rattle.listing.specs.declared.Listed.the-variants.{Refused as notListed}
-use Rattle.listing.specs.Listing.{listedSays}
-use Rattle.retraction_gen.proofs.Sourced.{list-sound}
+use Rattle.retraction_gen.specs.inner.Rest.{restOf}
+use Rattle.slots.specs.declared.Listed.{Listed}
+use Rattle.slots.specs.declared.Listed.the-variants.{Refused as notListed}
+use Rattle.slots.specs.Slots.{listedSays}
+use Rattle.retraction_gen.proofs.Sources.{list-sound}
 use Rattle.retraction_gen.proofs.Whole.{start-formed, start-rest, made-start, made-fits}
-use Rattle.accept.proofs.Writing.{writes-behind, writes-refused}
+use Rattle.refusal.proofs.Tested.{stop-on}
+use Rattle.refusal.proofs.Writing.{writes-behind, writes-refused}
+use Rattle.board.proofs.Numbers.{gate-refuses}
+use Rattle.retraction_gen.proofs.Gated.{makes-on}
 use Rattle.listing.proofs.Lengths.{sequence-fits}
 
-module _ (b : RetractableBoard) (m : Made) (e : Makes (listTests b) (cursorOn b) m) where
+pub gate-told : (b : RetractableBoard) {s : List ℕ} (v : Verdict) → v ≡ gateOf b → (why : Refusal) → v ≡ Refused why
+    → Writes (listTests b) (map packed (sequenceOn b)) s (listedSays (notListed why)) s
+gate-told b v e why h = writes-refused why (stop-on (boardTests b) (fullTest (listOn b)) why (gate-refuses b v e why h))
+
+module _ (b : RetractableBoard) (m : Made) (h : gateOf b ≡ Accepted) (x : Makes (fullTest (listOn b)) (cursorOn b) m) where
+  e : Makes (listTests b) (cursorOn b) m
+  e = makes-on b (gateOf b) refl m h x
+
   made-rest : m .verdict ≡ Accepted → restOf (m .cursor) ≡ sequenceOn b
   unfolding sequenceOn
   made-rest k = ap restOf (made-start b m e k) ∙ start-rest (listOn b) (masksOn b)

@@ -11,7 +11,7 @@ use Rattle.retraction_gen.specs.declared.Turn.{Turn}
 use Rattle.retraction_gen.specs.declared.Turn.the-variants.{Again, Found, Over}
 use Rattle.retraction_gen.specs.declared.Turned.{Turned}
 use Rattle.retraction_gen.specs.Cursors.{turnOf, fuel, wellFormed}
-use Rattle.retraction_gen.specs.Rest.{restOf}
+use Rattle.retraction_gen.specs.inner.Rest.{restOf}
 use Rattle.retraction_gen.proofs.Going.{turn-less}
 use Rattle.retraction_gen.proofs.Remaining.{found, turn-gives}
 use Rattle.retraction_gen.proofs.Whole.{turn-formed, formed-len, turn-range}
@@ -20,10 +20,10 @@ module _ (g : RetractionGen) (t : Turned) (e : t ≡ turnOf g) (w : wellFormed g
   pub walk-formed : wellFormed (t .cursor) ≡ true
   walk-formed = ap (λ (x : Turned). wellFormed (x .cursor)) e ∙ turn-formed g ∙ w
 
-  pub walk-gives : restOf g ≡ found (t .turn) (restOf (t .cursor))
+  walk-gives : restOf g ≡ found (t .turn) (restOf (t .cursor))
   walk-gives = turn-gives g (formed-len g w) ∙ sym (ap (λ (x : Turned). found (x .turn) (restOf (x .cursor))) e)
 
-  pub walk-less : (t .turn ≡ Over → ⊥) → fuel (t .cursor) < fuel g
+  walk-less : (t .turn ≡ Over → ⊥) → fuel (t .cursor) < fuel g
   walk-less n = subst (λ (x : Turned). (x .turn ≡ Over → ⊥) → fuel (x .cursor) < fuel g) (sym e) (turn-less g) n
 
   pub again-rest : t .turn ≡ Again → restOf g ≡ restOf (t .cursor)

@@ -18,7 +18,7 @@ use Rattle.laws.specs.Men.{Man, empty, man, Men, kindNumber, manNumber, isOf, i
 use Rattle.laws.specs.Souls.{number}
 use Rattle.laws.specs.Attacks.{unionOf}
 use Rattle.laws.specs.Boards.{menOk, manBy, kindBy, kindSet, colorSet, kindsAt, colorsAt, menAt, Clean}
-use Rattle.men.specs.Standing.{strange, menOf}
+use Rattle.men.specs.inner.Standing.{strange, menOf}
 use Rattle.squares.proofs.Testing.{order, agree, agree-eq}
 use Rattle.squares.proofs.Digits.{differs, has-and, has-or, has-xor, has-above}
 use Rattle.squares.proofs.Comprehension.{is-upTo, upTo-lt, has-setOf}

@@ -1,1 +1,2 @@
 pub mod Having
+pub mod Beside

@@ -9,7 +9,7 @@ ghost use Rattle.laws.specs.Men.{man, colorPlace, kindNumber, kindPlace, manNum
 ghost use Rattle.laws.specs.Attacks.{unionOf};
 ghost use Rattle.laws.specs.Souls as laws;
 ghost use Rattle.laws.specs.Boards.{kindBy, menAt, menOk, Clean};
-ghost use Rattle.men.specs.Standing.{strange, menOf};
+ghost use Rattle.men.specs.inner.Standing.{strange, menOf, nextTo, besideOf};
 
 // The place of a colour in an array of two.
 pub fn color_place(c: Color) -> usize
@@ -151,4 +151,22 @@ pub fn man_at(pieces: [u64; 6], colors: [u64; 2], sq: u8) -> u8
         squares::has(colors[1], sq),
         kind,
     )
+}
+
+// The squares beside a square, on its rank.
+pub fn next_to(sq: u8) -> u64
+    requires { ⌜ sq < 64 ⌝ }
+    ensures { λ r. ⌜ r ≡ setOf (nextTo sq) ⌝ }
+{
+    let b = squares::bit(sq);
+    squares::left(b) | squares::right(b)
+}
+
+// A pawn of the colour stands beside a square.
+pub fn pawn_beside(pieces: [u64; 6], colors: [u64; 2], color: Color, sq: u8) -> bool
+    requires { ⌜ Clean pieces colors × (sq < 64) ⌝ }
+    ensures { λ r. ⌜ r ≡ besideOf (menAt pieces colors) color sq ⌝ }
+{
+    let near = next_to(sq);
+    men_of(pieces, colors, Piece::Pawn, color) & near != 0
 }

@@ -8,25 +8,26 @@ use borrow.Author.Tests.{eqb-true, eq-eqb, ne-eqb, lt-ltb, le-ltb, le-leb, ltb-t
 use Rattle.squares.specs.Tests.{_and_, _or_}
 use Rattle.squares.specs.Squares.{has, setOf}
 use Rattle.geometry.specs.declared.Color.{Color}
-use Rattle.geometry.specs.Colors.{opp, homeSquare, rankFor}
+use Rattle.geometry.specs.Colors.{opp, rankFor}
 use Rattle.geometry.specs.Lines.{apart, files, between, straight, free, clear}
 use Rattle.geometry.specs.Steps.{knightStep, kingStep, pawnStep, pawnDouble, pawnTakes, slideLine}
 use Rattle.laws.specs.declared.Piece.the-variants.{Pawn, Knight, King}
 use Rattle.laws.specs.declared.ChessRetraction.{ChessRetraction}
 use Rattle.laws.specs.Men.{Man, man, Men, manNumber, manOf, numbered, sameMan, isEmpty, isOf, bare}
 use Rattle.laws.specs.Attacks.{unionOf}
-use Rattle.laws.specs.Positions.{Pos, short, long}
-use Rattle.laws.specs.Moves.{plain, castling, way, goes, markOk}
-use Rattle.placing.specs.Placed.{manWith, colorBy}
-use Rattle.moves.specs.declared.Way.{Way}
-use Rattle.moves.specs.declared.Way.the-variants.{Plain, Passant, Short, Long}
-use Rattle.moves.specs.Stepping.{wayOf, wayBy, wayFor, movesFor, goesFor, possibleFor}
+use Rattle.laws.specs.Positions.{Pos, kingHome, kingTo}
+use Rattle.laws.specs.declared.Side.the-variants.{Short as short, Long as long}
+use Rattle.laws.specs.declared.Way.the-variants.{Plain as plain}
+use Rattle.laws.specs.Moves.{way, goes, markOk}
+use Rattle.position.specs.inner.Edits.{manWith, colorBy}
+use Rattle.laws.specs.declared.Way.{Way}
+use Rattle.moves.specs.Stepping.{possibleFor}
+use Rattle.moves.specs.inner.Parts.{wayBy, wayFor, movesFor, goesFor}
 use Rattle.squares.proofs.Testing.{both, left, or-false, bool-ext}
 use Rattle.squares.proofs.Comprehension.{has-setOf}
 use Rattle.squares.proofs.Every.{all-cong}
-use Rattle.laws.proofs.Mans.{by-number}
-use Rattle.placing.proofs.Editing.{man-split}
-use Rattle.placing.proofs.Composing.{numbered-is}
+use Rattle.position.proofs.Editing.{man-split, is-man}
+use Rattle.position.proofs.Composing.{numbered-is}
 use Rattle.laws.specs.Moves as laws
 
 -- the man whose kind's number is k
@@ -40,38 +41,28 @@ files-apart a b =
     (λ e. let h : a ≡ b = eqb-true a b e in eq-eqb (apart a b) 0 (omega arith))
     (λ e. let h : apart a b ≡ 0 = eqb-true (apart a b) 0 e in eq-eqb a b (omega arith))
 
-pub not-home : (k h : Bool) (w : Way) → (k && h) ≡ false → Plain ≡ cond k (cond h w Plain) Plain
+pub not-home : (k h : Bool) (w : Way) → (k && h) ≡ false → plain ≡ cond k (cond h w plain) plain
 not-home true true w e = absurd (false≢true (sym e))
 not-home true false w e = refl
 not-home false h w e = refl
 
-through : (t : Bool) (x y : Way) → wayOf (cond t x y) ≡ cond t (wayOf x) (wayOf y)
-through true x y = refl
-through false x y = refl
-
 way-with : (c : Color) (k t s u : ℕ) → k < 7
-    → wayOf (wayBy (eqb k 1) (eqb k 6) (eqb u 0 and not (eqb (files t s) 0)) (eqb t (homeSquare c 4)) (eqb s (homeSquare c 6)) (eqb s (homeSquare c 2))) ≡ way (manWith c k) t s u
+    → wayBy (eqb k 1) (eqb k 6) (eqb u 0 and not (eqb (files t s) 0)) (eqb t (kingHome c)) (eqb s (kingTo c short)) (eqb s (kingTo c long)) ≡ way (manWith c k) t s u
 way-with c zero t s u h = refl
-way-with c (suc zero) t s u h = through (eqb u 0 and not (eqb (files t s) 0)) Passant Plain
+way-with c (suc zero) t s u h = refl
 way-with c (suc (suc zero)) t s u h = refl
 way-with c (suc (suc (suc zero))) t s u h = refl
 way-with c (suc (suc (suc (suc zero)))) t s u h = refl
 way-with c (suc (suc (suc (suc (suc zero))))) t s u h = refl
-way-with c (suc (suc (suc (suc (suc (suc zero)))))) t s u h = go (eqb t (homeSquare c 4)) (eqb s (homeSquare c 6)) (eqb s (homeSquare c 2))
-  where
-    go : (a b d : Bool) → wayOf (cond a (cond b Short (cond d Long Plain)) Plain) ≡ cond a (cond b (castling short) (cond d (castling long) plain)) plain
-    go true true d = refl
-    go true false true = refl
-    go true false false = refl
-    go false b d = refl
+way-with c (suc (suc (suc (suc (suc (suc zero)))))) t s u h = refl
 way-with c (suc (suc (suc (suc (suc (suc (suc n))))))) t s u h = absurd (omega arith)
 
 pub way-is : (x t s u : ℕ) → x < 14
-    → wayOf (wayBy (eqb (x / 2) 1) (eqb (x / 2) 6) (eqb u 0 && not (eqb (t % 8) (s % 8))) (eqb t (homeSquare (colorBy x) 4)) (eqb s (homeSquare (colorBy x) 6)) (eqb s (homeSquare (colorBy x) 2)))
+    → wayBy (eqb (x / 2) 1) (eqb (x / 2) 6) (eqb u 0 && not (eqb (t % 8) (s % 8))) (eqb t (kingHome (colorBy x))) (eqb s (kingTo (colorBy x) short)) (eqb s (kingTo (colorBy x) long))
     ≡ wayFor (manOf x) t s u
 unfolding wayFor _and_
 way-is x t s u h =
-    ap (λ (b : Bool). wayOf (wayBy (eqb (x / 2) 1) (eqb (x / 2) 6) (eqb u 0 and not b) (eqb t (homeSquare (colorBy x) 4)) (eqb s (homeSquare (colorBy x) 6)) (eqb s (homeSquare (colorBy x) 2))))
+    ap (λ (b : Bool). wayBy (eqb (x / 2) 1) (eqb (x / 2) 6) (eqb u 0 and not b) (eqb t (kingHome (colorBy x))) (eqb s (kingTo (colorBy x) short)) (eqb s (kingTo (colorBy x) long)))
     (files-apart (t % 8) (s % 8))
     ∙ way-with (colorBy x) (x / 2) t s u (omega arith) ∙ ap (λ (z : Man). way z t s u) (sym (man-split x h))
 
@@ -175,7 +166,7 @@ in-range s t u e =
     no-right true b e = absurd (false≢true (sym e))
     no-right false b e = e
 
-pub possible-is : (p : Pos) (r : ChessRetraction) (k : ℕ) {x y v : ℕ} {a f g : Bool} (w : laws.Way) → (r .source < 64) × (r .target < 64) × (r .uncaptured < 6)
+pub possible-is : (p : Pos) (r : ChessRetraction) (k : ℕ) {x y v : ℕ} {a f g : Bool} (w : Way) → (r .source < 64) × (r .target < 64) × (r .uncaptured < 6)
     → x ≡ manNumber (p .men (r .target)) → y ≡ manNumber (p .men (r .source)) → v ≡ manNumber (manWith (opp (p .turn)) (r .uncaptured))
     → w ≡ wayFor (manOf x) (r .target) (r .source) (r .uncaptured) → a ≡ isOf (p .turn) (manOf x) → f ≡ markOk (manOf x) (p .turn) (r .source) (r .unpromotion) k
     → g ≡ goesFor p w (r .target) (r .source) (r .uncaptured) → (((a && eqb y v) && f) && g) ≡ possibleFor p r k
@@ -186,11 +177,11 @@ possible-is p r k {x} {y} {v} {a} {f} {g} w h nx ny nv ew ea ef eg =
     (ap₂ (λ (i j : Bool). i && j) (ea ∙ ap (isOf (p .turn)) is)
     (ap₂ eqb ny (nv ∙ ap manNumber (numbered-is (opp (p .turn)) (r .uncaptured) (omega (arith, h .2))))))
     (ef ∙ ap (λ (z : Man). markOk z (p .turn) (r .source) (r .unpromotion) k) is))
-    (eg ∙ ap (λ (z : laws.Way). goes p z (r .target) (r .source) (r .uncaptured)) (ew ∙ ap (λ (z : Man). way z (r .target) (r .source) (r .uncaptured)) is))
+    (eg ∙ ap (λ (z : Way). goes p z (r .target) (r .source) (r .uncaptured)) (ew ∙ ap (λ (z : Man). way z (r .target) (r .source) (r .uncaptured)) is))
     ∙ sym (ap (rest p r k) inside)
   where
     is : manOf x ≡ p .men (r .target)
-    is = ap manOf nx ∙ by-number (p .men (r .target))
+    is = is-man (p .men (r .target)) nx
 
     inside : (ltb (r .source) 64 and ltb (r .target) 64 and leb (r .uncaptured) 5) ≡ true
     inside = both (both (lt-ltb (r .source) 64 (h .0)) (lt-ltb (r .target) 64 (h .1))) (le-leb (r .uncaptured) 5 (omega (arith, h .2)))

@@ -1,22 +1,24 @@
 // The step of 12 on a position. `t` is the table of squares between, lent.
-use super::Way;
 use laws::ChessRetraction;
 use laws::Color;
 use laws::EnPassantFlag;
-use placing::Position;
+use laws::Position;
+use laws::Side;
+use laws::Way;
 ghost use mathlib.Core.Path.{_≡_};
 ghost use Prim.Native.Nat.{_<_};
 ghost use lib.Dec.{eqb};
 ghost use Rattle.squares.specs.Tests.{_and_, _or_};
-ghost use Rattle.geometry.specs.Colors.{homeSquare, behind};
+ghost use Rattle.geometry.specs.Colors.{behind};
 ghost use Rattle.geometry.specs.Lines.{IsBetween, clear};
 ghost use Rattle.geometry.specs.Steps.{pawnTakes, slideLine};
 ghost use Rattle.laws.specs.declared.Piece.the-variants.{Pawn};
 ghost use Rattle.laws.specs.Men.{man, manOf, bare};
+ghost use Rattle.laws.specs.Positions.{rightsOf, kingHome, corner};
 ghost use Rattle.laws.specs.Moves.{isNamed, markOk};
-ghost use Rattle.laws.specs.Boards.{Clean};
-ghost use Rattle.placing.specs.Placed.{menIn, posAt};
-ghost use Rattle.moves.specs.Stepping.{wayOf, wayBy, wayFor, movesFor, goesFor, possibleFor, Stands};
+ghost use Rattle.laws.specs.Boards.{Clean, menIn, posAt};
+ghost use Rattle.moves.specs.Stepping.{possibleFor};
+ghost use Rattle.moves.specs.inner.Parts.{wayBy, wayFor, movesFor, goesFor, Stands};
 
 fn way_by(pawn: bool, king: bool, cross: bool, home: bool, near: bool, far: bool) -> Way
     ensures { λ r. ⌜ r ≡ wayBy pawn king cross home near far ⌝ }
@@ -29,10 +31,10 @@ fn way_by(pawn: bool, king: bool, cross: bool, home: bool, near: bool, far: bool
     }
     if king & home {
         if near {
-            return Way::Short;
+            return Way::Castle(Side::Short);
         }
         if far {
-            return Way::Long;
+            return Way::Castle(Side::Long);
         }
     }
     Way::Plain
@@ -41,18 +43,18 @@ fn way_by(pawn: bool, king: bool, cross: bool, home: bool, near: bool, far: bool
 // The way of the man numbered x from one square to another, taking the man numbered u.
 pub fn way_of(x: u8, from: u8, to: u8, u: u8) -> Way
     requires { ⌜ x < 14 ⌝ }
-    ensures { λ r. ⌜ wayOf r ≡ wayFor (manOf x) from to u ⌝ }
+    ensures { λ r. ⌜ r ≡ wayFor (manOf x) from to u ⌝ }
 {
-    let c = placing::inner::color_of(x);
+    let c = position::inner::color_of(x);
     let k = x / 2;
     let cross = (u == 0) & (from % 8 != to % 8);
     way_by(
         k == 1,
         k == 6,
         cross,
-        from == accept::inner::tests::home(c, 4),
-        to == accept::inner::tests::home(c, 6),
-        to == accept::inner::tests::home(c, 2),
+        from == laws::inner::castling::king_home(c),
+        to == laws::inner::castling::king_to(c, Side::Short),
+        to == laws::inner::castling::king_to(c, Side::Long),
     )
 }
 
@@ -96,7 +98,7 @@ pub fn man_moves(t: &[u64; 4096], p: Position, x: u8, from: u8, to: u8, u: u8) -
     requires { ⌜ (IsBetween (now t) × Clean (p .pieces) (p .colors)) × ((from < 64) × (to < 64) × (x < 14)) ⌝ }
     ensures { λ r. ⌜ r ≡ movesFor (menIn p) (manOf x) from to u ⌝ }
 {
-    let c = placing::inner::color_of(x);
+    let c = position::inner::color_of(x);
     let k = x / 2;
     if k == 1 {
         return pawn_moves(t, p, c, from, to, u);
@@ -130,17 +132,18 @@ fn takes_passant(p: Position, from: u8, to: u8) -> bool
         return false;
     }
     let state = p.passant;
-    is_named(state, accept::inner::tests::behind(c, to))
+    is_named(state, geometry::inner::behind(c, to))
 }
 
-// Castling with the rook of a file, with the right, and nothing between king and rook.
-fn castles(t: &[u64; 4096], p: Position, held: bool, file: u8, u: u8) -> bool
-    requires { ⌜ (IsBetween (now t) × Clean (p .pieces) (p .colors)) × (file < 8) ⌝ }
-    ensures { λ r. ⌜ r ≡ (eqb u 0 and held and clear (bare (menIn p)) (homeSquare (p .turn) 4) (homeSquare (p .turn) file)) ⌝ }
+// Castling on a side: with the right, and nothing between king and rook.
+fn castles(t: &[u64; 4096], p: Position, d: Side, u: u8) -> bool
+    requires { ⌜ IsBetween (now t) × Clean (p .pieces) (p .colors) ⌝ }
+    ensures { λ r. ⌜ r ≡ (eqb u 0 and rightsOf (p .white) (p .black) (p .turn) d and clear (bare (menIn p)) (kingHome (p .turn)) (corner (p .turn) d)) ⌝ }
 {
     let c = p.turn;
-    let king = accept::inner::tests::home(c, 4);
-    let rook = accept::inner::tests::home(c, file);
+    let held = laws::inner::castling::has_right(p, c, d);
+    let king = laws::inner::castling::king_home(c);
+    let rook = laws::inner::castling::rook_home(c, d);
     let path = is_free(t, p, king, rook);
     (u == 0) & held & path
 }
@@ -148,15 +151,12 @@ fn castles(t: &[u64; 4096], p: Position, held: bool, file: u8, u: u8) -> bool
 // The step by its way; x is the number of the man that goes.
 fn goes(t: &[u64; 4096], p: Position, w: Way, x: u8, from: u8, to: u8, u: u8) -> bool
     requires { ⌜ (IsBetween (now t) × Clean (p .pieces) (p .colors)) × Stands p x from to ⌝ }
-    ensures { λ r. ⌜ r ≡ goesFor (posAt p) (wayOf w) from to u ⌝ }
+    ensures { λ r. ⌜ r ≡ goesFor (posAt p) w from to u ⌝ }
 {
-    let c = p.turn;
-    let rights = placing::inner::rights_of(p, c);
     match w {
         Way::Plain => man_moves(t, p, x, from, to, u),
         Way::Passant => takes_passant(p, from, to),
-        Way::Short => castles(t, p, accept::inner::tests::has_short(rights), 7, u),
-        Way::Long => castles(t, p, accept::inner::tests::has_long(rights), 0, u),
+        Way::Castle(d) => castles(t, p, d, u),
     }
 }
 
@@ -165,7 +165,7 @@ fn mark_ok(x: u8, c: Color, to: u8, mark: bool, k: u8) -> bool
     requires { ⌜ (x < 14) × (to < 64) ⌝ }
     ensures { λ r. ⌜ r ≡ markOk (manOf x) c to mark k ⌝ }
 {
-    let last = placing::inner::is_pawn(x) & (accept::inner::tests::rank_for(c, to) == 7);
+    let last = position::inner::is_pawn(x) & (geometry::inner::rank_for(c, to) == 7);
     if mark {
         return last & (2 <= k) & (k <= 5);
     }
@@ -181,11 +181,11 @@ pub fn possible(t: &[u64; 4096], p: Position, r: ChessRetraction, k: u8) -> bool
         return false;
     }
     let c = p.turn;
-    let x = placing::inner::man_at(p, r.target);
-    let y = placing::inner::man_at(p, r.source);
-    let v = placing::inner::man_number(geometry::other(c), r.uncaptured);
+    let x = position::inner::man_at(p, r.target);
+    let y = position::inner::man_at(p, r.source);
+    let v = position::inner::man_number(geometry::other(c), r.uncaptured);
     let w = way_of(x, r.target, r.source, r.uncaptured);
-    let mine = placing::inner::is_of(c, x);
+    let mine = position::inner::is_of(c, x);
     let fits = mark_ok(x, c, r.source, r.unpromotion, k);
     mine & (y == v) & fits & goes(t, p, w, x, r.target, r.source, r.uncaptured)
 }

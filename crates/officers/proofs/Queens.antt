@@ -7,7 +7,7 @@ use Rattle.squares.specs.Tests.{_and_, _or_}
 use Rattle.squares.specs.Squares.{has, setOf, allTo}
 use Rattle.geometry.specs.Lines.{sameRank, sameFile, sameDiagonal, straight, diagonal, aligned, free, clear}
 use Rattle.geometry.specs.Steps.{reaches}
-use Rattle.scene.specs.Chess.{rookMoves, bishopMoves}
+use Rattle.geometry.specs.Chess.{rookMoves, bishopMoves}
 use Rattle.squares.proofs.Digits.{differs, has-xor}
 use Rattle.squares.proofs.Comprehension.{is-upTo, has-setOf, upTo-lt}
 use Rattle.squares.proofs.Every.{pair-eq}

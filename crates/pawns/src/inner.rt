@@ -1,44 +1,44 @@
-// Un-pushes and uncaptures of pawns, and of men on the last rank. `t` is the table of `tables::between_table`, lent.
-use roll::RetractionList;
-use roll::UnCaptureKind;
-use scene::EnPassantFlag;
-use scene::Scene;
+// Un-pushes and uncaptures of pawns and of men on the last rank, and the pawn's whole list. `t` is the table of `tables::between_table`, lent.
+use retraction_list::RetractionList;
+use retraction_list::UnCaptureKind;
+use view::EnPassantFlag;
+use view::View;
 ghost use mathlib.Core.Path.{_≡_};
 ghost use Prim.Native.Nat.{_<_};
 ghost use Rattle.squares.specs.Members.{members, concat};
-ghost use Rattle.roll.specs.Roll.{pushedAll};
-ghost use Rattle.scene.specs.Scenes.{Ready};
-ghost use Rattle.pawns.specs.Pawns.{candidateRetractors, otherRayOf, allowsOf, doubledOf, crossedOf, vacantOf, homeOf, unpushOf, uncaptureOf, fromOf, stepsOf};
+ghost use Rattle.retraction_list.specs.inner.Pushing.{pushedAll};
+ghost use Rattle.view.specs.inner.Readiness.{Ready};
+ghost use Rattle.pawns.specs.Pawns.{candidateRetractors, otherRayOf, allowsOf, doubledOf, crossedOf, homeOf, unpushOf, uncaptureOf, fromOf, stepsOf, pawnOf};
 
-fn candidate_retractors(s: Scene, n: u32) -> u64
-    ensures { λ r. ⌜ r ≡ candidateRetractors s n ⌝ }
+fn candidate_retractors(v: View, n: u32) -> u64
+    ensures { λ r. ⌜ r ≡ candidateRetractors v n ⌝ }
 {
-    let color = s.color;
-    let last = squares::get_rank(scene::inner::own_rank(color, 7));
-    let pawns = s.men[0];
-    let checking = s.checkers & (pawns | last);
+    let color = v.color;
+    let last = squares::get_rank(geometry::inner::own_rank(color, 7));
+    let pawns = v.men[0];
+    let checking = v.checkers & (pawns | last);
     if (n >= 1) & (checking != 0) {
         return checking;
     }
-    let king = squares::bit(s.king);
+    let king = squares::bit(v.king);
     if n <= 1 {
-        return pawns | (last & s.own & !king);
+        return pawns | (last & v.own & !king);
     }
     0
 }
 
 // `other_checker_ray`
-fn other_ray(t: &[u64; 4096], s: Scene, n: u32, src: u8) -> u64
-    requires { ⌜ Ready (now t) s × (src < 64) ⌝ }
-    ensures { λ r. ⌜ r ≡ otherRayOf s n src ⌝ }
+fn other_ray(t: &[u64; 4096], v: View, n: u32, src: u8) -> u64
+    requires { ⌜ Ready (now t) v × (src < 64) ⌝ }
+    ensures { λ r. ⌜ r ≡ otherRayOf v n src ⌝ }
 {
-    let checker = scene::inner::to_square(s.checkers);
+    let checker = view::inner::to_square(v.checkers);
     if (n == 0) | ((n == 1) & (checker == src)) {
         return 0xffff_ffff_ffff_ffff;
     }
     let own = squares::bit(src);
-    let other = scene::inner::to_square(s.checkers & !own);
-    tables::inner::between(t, other, s.oppking)
+    let other = view::inner::to_square(v.checkers & !own);
+    tables::inner::between(t, other, v.oppking)
 }
 
 // No pawn can take it en passant, or it isn't known whether one can.
@@ -53,115 +53,113 @@ fn allows(e: EnPassantFlag, lonely: bool) -> bool
 }
 
 // The pawn on src may have made a double push over `crossed`.
-fn doubled(s: Scene, src: u8, crossed: u8) -> bool
+fn doubled(v: View, src: u8, crossed: u8) -> bool
     requires { ⌜ src < 64 ⌝ }
-    ensures { λ r. ⌜ r ≡ doubledOf s src crossed ⌝ }
+    ensures { λ r. ⌜ r ≡ doubledOf v src crossed ⌝ }
 {
-    let color = s.color;
-    let fourth = scene::inner::own_rank(color, 3);
-    let files = scene::inner::adjacent_files(src);
+    let color = v.color;
+    let fourth = geometry::inner::own_rank(color, 3);
+    let files = view::inner::adjacent_files(src);
     let near = squares::get_rank(src / 8);
-    let e = s.passant;
-    let may = allows(e, (files & near) & s.rivals == 0);
-    let blocked = squares::has(s.combined, crossed);
+    let e = v.passant;
+    let may = allows(e, (files & near) & v.rivals == 0);
+    let blocked = squares::has(v.combined, crossed);
     ((src / 8 == fourth) & may) & !blocked
 }
 
 // The squares that a push came from, before the masks.
-fn crossing(s: Scene, src: u8, crossed: u8) -> u64
+fn crossing(v: View, src: u8, crossed: u8) -> u64
     requires { ⌜ (src < 64) × (crossed < 64) ⌝ }
-    ensures { λ r. ⌜ r ≡ crossedOf s src crossed ⌝ }
+    ensures { λ r. ⌜ r ≡ crossedOf v src crossed ⌝ }
 {
-    let color = s.color;
+    let color = v.color;
     let one = squares::bit(crossed);
-    let further = scene::inner::ubackward(color, crossed);
+    let further = geometry::inner::ubackward(color, crossed);
     let two = squares::bit(further);
-    if doubled(s, src, crossed) {
+    if doubled(v, src, crossed) {
         return one | two;
     }
     one
 }
 
-// `!combined & !check_mask`: empty, and no check from there.
-pub fn vacant(s: Scene) -> u64
-    requires { ⌜ s .oppking < 64 ⌝ }
-    ensures { λ r. ⌜ r ≡ vacantOf s ⌝ }
+fn home(v: View, ray: u64) -> u64
+    requires { ⌜ v .oppking < 64 ⌝ }
+    ensures { λ r. ⌜ r ≡ homeOf v ray ⌝ }
 {
-    let color = s.color;
-    let other = geometry::other(color);
-    let check_mask = tables::inner::get_pawn_attacks(other, s.oppking);
-    !s.combined & !check_mask
+    let color = v.color;
+    let first_rank = squares::get_rank(geometry::inner::own_rank(color, 0));
+    let free = un_en_passant::inner::vacant(v);
+    free & !first_rank & ray & v.mask
 }
 
-fn home(s: Scene, ray: u64) -> u64
-    requires { ⌜ s .oppking < 64 ⌝ }
-    ensures { λ r. ⌜ r ≡ homeOf s ray ⌝ }
+fn unpush(v: View, ray: u64, src: u8) -> u64
+    requires { ⌜ (v .oppking < 64) × (src < 64) ⌝ }
+    ensures { λ r. ⌜ r ≡ unpushOf v ray src ⌝ }
 {
-    let color = s.color;
-    let first_rank = squares::get_rank(scene::inner::own_rank(color, 0));
-    let free = vacant(s);
-    free & !first_rank & ray & s.mask
-}
-
-fn unpush(s: Scene, ray: u64, src: u8) -> u64
-    requires { ⌜ (s .oppking < 64) × (src < 64) ⌝ }
-    ensures { λ r. ⌜ r ≡ unpushOf s ray src ⌝ }
-{
-    let color = s.color;
-    let crossed = scene::inner::ubackward(color, src);
-    let to = crossing(s, src, crossed);
-    let free = home(s, ray);
-    if squares::has(s.pinned, src) {
-        let l = sliding::inner::lines::line(src, s.oppking);
+    let color = v.color;
+    let crossed = geometry::inner::ubackward(color, src);
+    let to = crossing(v, src, crossed);
+    let free = home(v, ray);
+    if squares::has(v.pinned, src) {
+        let l = sliding::inner::lines::line(src, v.oppking);
         return to & free & l;
     }
     to & free
 }
 
-fn uncapture(s: Scene, ray: u64, src: u8) -> u64
-    requires { ⌜ (s .oppking < 64) × (src < 64) ⌝ }
-    ensures { λ r. ⌜ r ≡ uncaptureOf s ray src ⌝ }
+fn uncapture(v: View, ray: u64, src: u8) -> u64
+    requires { ⌜ (v .oppking < 64) × (src < 64) ⌝ }
+    ensures { λ r. ⌜ r ≡ uncaptureOf v ray src ⌝ }
 {
-    let color = s.color;
+    let color = v.color;
     let other = geometry::other(color);
     let to = tables::inner::get_pawn_attacks(other, src);
-    let free = home(s, ray);
+    let free = home(v, ray);
     to & free
 }
 
 // Both entries of the man on src.
-fn from(list: RetractionList, t: &[u64; 4096], s: Scene, n: u32, src: u8) -> RetractionList
-    requires { ⌜ Ready (now t) s × (src < 64) ⌝ }
-    ensures { λ r. ⌜ r ≡ pushedAll list (fromOf s n src) ⌝ }
+fn from(list: RetractionList, t: &[u64; 4096], v: View, n: u32, src: u8) -> RetractionList
+    requires { ⌜ Ready (now t) v × (src < 64) ⌝ }
+    ensures { λ r. ⌜ r ≡ pushedAll list (fromOf v n src) ⌝ }
 {
-    let color = s.color;
-    let ray = other_ray(t, s, n, src);
-    let mark = src / 8 == scene::inner::own_rank(color, 7);
-    let step = unpush(s, ray, src);
-    let one = roll::inner::offer(list, src, step, UnCaptureKind::Forbidden, mark);
-    let take = uncapture(s, ray, src);
-    roll::inner::offer(one, src, take, UnCaptureKind::Necessary, mark)
+    let color = v.color;
+    let ray = other_ray(t, v, n, src);
+    let mark = src / 8 == geometry::inner::own_rank(color, 7);
+    let step = unpush(v, ray, src);
+    let one = retraction_list::inner::offer(list, src, step, UnCaptureKind::Forbidden, mark);
+    let take = uncapture(v, ray, src);
+    retraction_list::inner::offer(one, src, take, UnCaptureKind::Necessary, mark)
 }
 
-fn each(list: RetractionList, t: &[u64; 4096], s: Scene, n: u32, set: u64) -> RetractionList
-    requires { ⌜ Ready (now t) s ⌝ }
-    ensures { λ r. ⌜ r ≡ pushedAll list (concat (fromOf s n) (members set)) ⌝ }
+fn each(list: RetractionList, t: &[u64; 4096], v: View, n: u32, set: u64) -> RetractionList
+    requires { ⌜ Ready (now t) v ⌝ }
+    ensures { λ r. ⌜ r ≡ pushedAll list (concat (fromOf v n) (members set)) ⌝ }
 {
     let mut out = list;
     let mut left = set;
     while left != 0 {
         let src = squares::lowest(left);
-        out = from(out, t, s, n, src);
+        out = from(out, t, v, n, src);
         left = squares::without(left, src);
     }
     out
 }
 
 // `for src in candidate_retractors`, with n checkers: 0, 1, or 2.
-pub fn steps(list: RetractionList, t: &[u64; 4096], s: Scene, n: u32) -> RetractionList
-    requires { ⌜ Ready (now t) s ⌝ }
-    ensures { λ r. ⌜ r ≡ pushedAll list (stepsOf s n) ⌝ }
+fn steps(list: RetractionList, t: &[u64; 4096], v: View, n: u32) -> RetractionList
+    requires { ⌜ Ready (now t) v ⌝ }
+    ensures { λ r. ⌜ r ≡ pushedAll list (stepsOf v n) ⌝ }
 {
-    let set = candidate_retractors(s, n);
-    each(list, t, s, n, set)
+    let set = candidate_retractors(v, n);
+    each(list, t, v, n, set)
+}
+
+// `legals` of the pawn.
+pub fn legals(list: RetractionList, t: &[u64; 4096], v: View, n: u32) -> RetractionList
+    requires { ⌜ Ready (now t) v ⌝ }
+    ensures { λ r. ⌜ r ≡ pushedAll list (pawnOf v n) ⌝ }
+{
+    let one = steps(list, t, v, n);
+    un_en_passant::inner::un_en_passants(one, t, v, n)
 }

@@ -8,9 +8,9 @@ use native.Mathlib.Omega.{arith}
 use lib.Dec.{eqb}
 use Rattle.squares.specs.Squares.{has}
 use Rattle.squares.specs.Members.{listTo, members, forEach, concat}
-use Rattle.roll.specs.declared.SourceAndTargets.{SourceAndTargets}
-use Rattle.roll.specs.declared.UnCaptureKind.{UnCaptureKind}
-use Rattle.roll.specs.Roll.{entryOf, offered}
+use Rattle.retraction_list.specs.declared.SourceAndTargets.{SourceAndTargets}
+use Rattle.retraction_list.specs.declared.UnCaptureKind.{UnCaptureKind}
+use Rattle.retraction_list.specs.Entries.{entryOf, offered}
 use Rattle.piece_type.specs.Statements.{Run, _>>_, push, skip, when, for}
 
 pub record Adds (run : Run) (es : List SourceAndTargets) : Type 0 where

@@ -11,10 +11,11 @@ use Rattle.squares.specs.Squares.{file, rank}
 use Rattle.geometry.specs.declared.Color.{Color}
 use Rattle.geometry.specs.declared.Color.the-variants.{White, Black}
 use Rattle.geometry.specs.Colors.{homeSquare}
-use Rattle.laws.specs.Positions.{short, long, kingHome, corner, kingTo, rookTo}
-use Rattle.roll.specs.declared.SourceAndTargets.{SourceAndTargets}
-use Rattle.roll.specs.declared.UnCaptureKind.the-variants.{Forbidden}
-use Rattle.roll.specs.Roll.{entryOf}
+use Rattle.laws.specs.declared.Side.the-variants.{Short as short, Long as long}
+use Rattle.laws.specs.Positions.{kingHome, corner, kingTo, rookTo}
+use Rattle.retraction_list.specs.declared.SourceAndTargets.{SourceAndTargets}
+use Rattle.retraction_list.specs.declared.UnCaptureKind.the-variants.{Forbidden}
+use Rattle.retraction_list.specs.Entries.{entryOf}
 use Rattle.squares.proofs.Testing.{agree, agree-eq}
 use Rattle.laws.proofs.Cases.{by-cases}
 use Rattle.piece_type.specs.Bitboards.{_==_, if_then_else_, fromSquare}

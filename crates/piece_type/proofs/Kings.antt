@@ -14,26 +14,27 @@ use Rattle.geometry.specs.Lines.{betweenOf}
 use Rattle.laws.specs.declared.Piece.the-variants.{Rook, King}
 use Rattle.laws.specs.declared.CastleRights.{CastleRights}
 use Rattle.laws.specs.declared.CastleRights.the-variants.{NoRights, KingSide, QueenSide, Both}
-use Rattle.laws.specs.Positions.{holds, short, long}
+use Rattle.laws.specs.Positions.{holds}
+use Rattle.laws.specs.declared.Side.the-variants.{Short as short, Long as long}
 use Rattle.laws.specs.Boards.{Board, kindSet}
-use Rattle.roll.specs.declared.SourceAndTargets.{SourceAndTargets}
-use Rattle.roll.specs.declared.UnCaptureKind.the-variants.{Optional, Necessary, Forbidden}
-use Rattle.roll.specs.Roll.{entryOf}
-use Rattle.scene.specs.declared.Scene.{Scene}
-use Rattle.scene.specs.Chess.{kingMoves, rookMoves}
-use Rattle.scene.specs.Scenes.{within, sceneOf}
+use Rattle.retraction_list.specs.declared.SourceAndTargets.{SourceAndTargets}
+use Rattle.retraction_list.specs.declared.UnCaptureKind.the-variants.{Optional, Necessary, Forbidden}
+use Rattle.retraction_list.specs.Entries.{entryOf}
+use Rattle.view.specs.declared.View.{View}
+use Rattle.geometry.specs.Chess.{kingMoves, rookMoves}
+use Rattle.view.specs.Views.{within, viewOf}
 use Rattle.kings.specs.Kings.{attackedOf, stepsOf, mayOf, steppedOf, safeOf, castledOf, shortOf, longOf, uncastledOf, kingOf}
 use Rattle.squares.proofs.Members.{first-lt}
 use Rattle.laws.proofs.Mans.{opp-opp}
 use Rattle.piece_type.specs.Bitboards.{_&_, !_, _==_, _!=_, if_then_else_, EMPTY, fromSquare}
 use Rattle.piece_type.specs.Squares.{toMyBackrank, uleft, uright}
-use Rattle.piece_type.specs.Boards.{piecesOf, colorCombined, rightsAt, notNoRights, kingSquare, isAttacked}
+use Rattle.piece_type.specs.Boards.{piecesOf, colorCombined, castleRights, notNoRights, kingSquare, isAttacked}
 use Rattle.piece_type.specs.Statements.{_>>_, push, when}
 use Rattle.piece_type.specs.PieceTypes.{CheckType, nbCheckers}
 use Rattle.piece_type.specs.Kings.{legals}
 use Rattle.piece_type.proofs.Sets.{meets-none}
 use Rattle.piece_type.proofs.Adding.{Adds, adds-same, adds-skip, adds-then, adds-push, adds-when, adds-if, offer, adds-offer}
-use Rattle.piece_type.proofs.Scenes.{sceneAt, maskOf, oppKsqOf, king-is, meets-some}
+use Rattle.piece_type.proofs.Views.{viewAt, maskOf, oppKsqOf, king-is, meets-some, rights-are}
 use Rattle.piece_type.proofs.Attacked.{attacked-is}
 use Rattle.piece_type.proofs.Castling.{Asked, shortly, longly, castles}
 
@@ -51,8 +52,8 @@ right-lt : (q : ℕ) → q < 64 → uright q < 64
 right-lt q h = omega arith
 
 module _ (b : Board) (n : ℕ) where
-  abbrev s : Scene
-  s = sceneAt b
+  abbrev s : View
+  s = viewAt b
 
   abbrev c : Color
   c = opp (b .turn)
@@ -74,21 +75,21 @@ module _ (b : Board) (n : ℕ) where
   targets = if n == 1 then away oppKsq & betweenOf (firstOf (b .checkers)) oppKsq else away oppKsq
 
   targets-are : targets ≡ stepsOf s n
-  unfolding stepsOf within sceneOf
+  unfolding stepsOf within viewOf
   targets-are = ap (λ (k : ℕ). if n == 1 then away k & betweenOf (firstOf (b .checkers)) k else away k) (king-is b)
 
   abbrev may : ℕ
   may = if fromSquare src & b .pinned != EMPTY then targets & betweenOf src oppKsq else targets
 
   may-be : may ≡ mayOf s (stepsOf s n)
-  unfolding within sceneOf
+  unfolding within viewOf
   may-be =
       ap (λ (t : Bool). cond t (targets & betweenOf src oppKsq) targets) (meets-some src (b .pinned) src-lt)
       ∙ ap₂ (λ (x k : ℕ). cond (has (b .pinned) src) (x & betweenOf src k) x) targets-are (king-is b)
 
   -- 534 to 554
   steps-add : Adds (offer src may Optional false >> offer src (targets & ! may) Necessary false) (steppedOf s (stepsOf s n))
-  unfolding steppedOf within sceneOf
+  unfolding steppedOf within viewOf
   steps-add = adds-then (adds-offer src false may-be refl) (adds-offer src false (ap₂ (λ (x y : ℕ). x & ! y) targets-are may-be) refl)
 
   -- what the Rust asks of squares, and what we ask
@@ -112,25 +113,25 @@ module _ (b : Board) (n : ℕ) where
 
   module _ (d : Color) (same : d ≡ b .turn) where
     rook-is : (x : ℕ) → x < 64 → asks d .rook x ≡ asked .rook x
-    unfolding within sceneOf
+    unfolding within viewOf
     rook-is x h =
         ap (λ (y : ℕ). fromSquare x & y != EMPTY) (and-comm (colorCombined b c) (piecesOf b Rook)) ∙ meets-some x (piecesOf b Rook & colorCombined b c) h
 
     bare-is : (x : ℕ) → x < 64 → asks d .bare x ≡ asked .bare x
-    unfolding sceneOf
+    unfolding viewOf
     bare-is x h = meets-none x (b .combined) h
 
     safe-is : (x : ℕ) → asks d .safe x ≡ asked .safe x
     safe-is x = ap (λ (e : Color). not (isAttacked b x e)) same ∙ ap not (attacked-is b x)
 
     far-is : (x : ℕ) → x < 64 → asks d .far x ≡ asked .far x
-    unfolding sceneOf
+    unfolding viewOf
     far-is x h =
         ap (λ (y : ℕ). y == EMPTY) (and-comm (rookMoves oppKsq (b .combined)) (fromSquare x)) ∙ meets-none x (rookMoves oppKsq (b .combined)) h
         ∙ ap (λ (k : ℕ). not (has (rookMoves k (b .combined)) x)) (king-is b)
 
     lone-is : (x : ℕ) → x < 64 → asks d .lone x ≡ asked .lone x
-    unfolding sceneOf
+    unfolding viewOf
     lone-is x h = ap (λ (t : Bool). n == 0 or t) (ap (λ (y : ℕ). y != EMPTY) (and-comm (b .checkers) (fromSquare x)) ∙ meets-some x (b .checkers) h)
 
     short-same : (q : ℕ) → q < 64 → shortly (asks d) (file q == 6) q ≡ shortly asked (file q == 6) q
@@ -163,7 +164,7 @@ module _ (b : Board) (n : ℕ) where
 
   castling-adds : Adds (when (rank src == toMyBackrank c)
       (if shortly (asks (opp c)) (file src == 6) src then push shortEntry else when (longly (asks (b .turn)) (file src == 2) src) (push longEntry))) (uncastledOf s n)
-  unfolding uncastledOf shortOf longOf castledOf safeOf within sceneOf
+  unfolding uncastledOf shortOf longOf castledOf safeOf within viewOf
   castling-adds =
       adds-same
       (adds-when (rank src == toMyBackrank c)
@@ -172,10 +173,11 @@ module _ (b : Board) (n : ℕ) where
       (short-same (opp c) (opp-opp (b .turn)) src src-lt) (long-same (b .turn) refl src src-lt)
       ∙ castles asked c src)
 
-pub king-adds : (T : CheckType) (b : Board) → Adds (legals T b (maskOf b)) (kingOf (sceneAt b) (nbCheckers T))
-unfolding legals kingOf sceneOf _>>_
+pub king-adds : (T : CheckType) (b : Board) → Adds (legals T b (maskOf b)) (kingOf (viewAt b) (nbCheckers T))
+unfolding legals kingOf viewOf _>>_
 king-adds T b =
     let n = nbCheckers T in
     adds-same
-    (adds-if (notNoRights (rightsAt b (opp (b .turn)))) adds-skip (adds-then (steps-add b n) (castling-adds b n)))
-    (ap (λ (t : Bool). cond t [] (steppedOf (sceneAt b) (stepsOf (sceneAt b) n) ++ uncastledOf (sceneAt b) n)) (held-is (rightsAt b (opp (b .turn)))))
+    (adds-if (notNoRights (castleRights b (opp (b .turn)))) adds-skip (adds-then (steps-add b n) (castling-adds b n)))
+    (ap (λ (t : Bool). cond t [] (steppedOf (viewAt b) (stepsOf (viewAt b) n) ++ uncastledOf (viewAt b) n))
+    (held-is (castleRights b (opp (b .turn))) ∙ ap₂ _or_ (rights-are b (opp (b .turn)) short) (rights-are b (opp (b .turn)) long)))

@@ -1,6 +1,6 @@
 pub mod Sets
 pub mod Adding
-pub mod Scenes
+pub mod Views
 pub mod Officers
 pub mod Knights
 pub mod Sliders

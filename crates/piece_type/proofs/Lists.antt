@@ -15,32 +15,31 @@ use Rattle.laws.specs.declared.EnPassantFlag.the-variants.{Any, Some, None}
 use Rattle.laws.specs.Men.{kindPlace}
 use Rattle.laws.specs.Acceptance.{stateOk}
 use Rattle.laws.specs.Boards.{Board, posOf, acceptedBoard}
-use Rattle.roll.specs.declared.SourceAndTargets.{SourceAndTargets}
-use Rattle.roll.specs.declared.UnCaptureKind.the-variants.{Forbidden}
-use Rattle.roll.specs.Roll.{entryOf}
-use Rattle.scene.specs.declared.Scene.{Scene}
-use Rattle.scene.specs.Chess.{fileSet, rankSet}
-use Rattle.scene.specs.Scenes.{sceneOf}
+use Rattle.retraction_list.specs.declared.SourceAndTargets.{SourceAndTargets}
+use Rattle.retraction_list.specs.declared.UnCaptureKind.the-variants.{Forbidden}
+use Rattle.retraction_list.specs.Entries.{entryOf}
+use Rattle.view.specs.declared.View.{View}
+use Rattle.geometry.specs.Chess.{fileSet, rankSet}
+use Rattle.view.specs.Views.{viewOf}
 use Rattle.officers.specs.Officers.{officerOf}
 use Rattle.kings.specs.Kings.{kingOf}
-use Rattle.enumerate.specs.Lists.{lesserOf, kindsOf, byCheckers, namedOf, byState, listedOf, listOf, officersOf, officerListOf}
+use Rattle.enumerate.specs.Lists.{lesserOf, kindsOf, byCheckers, namedOf, byState, listOf, allButPawns}
 use Rattle.squares.proofs.Testing.{left, right, bool-ext}
 use Rattle.squares.proofs.Comprehension.{empty, upTo-lt}
 use Rattle.squares.proofs.Counting.{count-none, count-empty}
 use Rattle.squares.proofs.Digits.{has-zero}
 use Rattle.laws.proofs.Facts.{accepts, names}
-use Rattle.enumerate.proofs.Ranks.{second-is}
 use Rattle.piece_type.specs.Bitboards.{_&_, _==_, if_then_else_, EMPTY}
 use Rattle.piece_type.specs.Squares.{toSecondRank}
 use Rattle.piece_type.specs.Statements.{Run, _>>_, push, skip, fromNew}
 use Rattle.piece_type.specs.PieceTypes.{CheckType, NotInCheck, InSimpleCheck, InDoubleCheck, nbCheckers, BishopType, RookType, QueenType}
-use Rattle.piece_type.specs.Lists.{ifNamed, enumerateRetractions, officerRetractions, Typed}
+use Rattle.piece_type.specs.Lists.{ifNamed, enumerateRetractions, limitedRetractions, Typed}
 use Rattle.piece_type.specs.Sliders as sliders
 use Rattle.piece_type.specs.Pawns as pawns
 use Rattle.piece_type.specs.Knights as knights
 use Rattle.piece_type.specs.Kings as kings
 use Rattle.piece_type.proofs.Adding.{Adds, adds-same, adds-then, adds-push, adds-skip, adds-if}
-use Rattle.piece_type.proofs.Scenes.{sceneAt, maskOf}
+use Rattle.piece_type.proofs.Views.{viewAt, maskOf}
 use Rattle.piece_type.proofs.Knights.{knight-adds}
 use Rattle.piece_type.proofs.Sliders.{bishop-adds, rook-adds, queen-adds}
 use Rattle.piece_type.proofs.Pawns.{pawn-adds}
@@ -51,14 +50,14 @@ module _ (T : CheckType) (b : Board) where
   lesser =
       pawns.legals T b (maskOf b) >> knights.legals T b (maskOf b) >> sliders.legals BishopType T b (maskOf b) >> sliders.legals RookType T b (maskOf b)
 
-  lesser-add : Adds lesser (lesserOf (sceneAt b) (nbCheckers T))
+  lesser-add : Adds lesser (lesserOf (viewAt b) (nbCheckers T))
   unfolding lesserOf
   lesser-add = adds-then (adds-then (adds-then (pawn-adds T b) (knight-adds T b)) (bishop-adds T b)) (rook-adds T b)
 
   abbrev kinds : Run
   kinds = lesser >> sliders.legals QueenType T b (maskOf b) >> kings.legals T b (maskOf b)
 
-  kinds-add : Adds kinds (lesserOf (sceneAt b) (nbCheckers T) ++ officerOf (sceneAt b) (nbCheckers T) (kindPlace Queen) ++ kingOf (sceneAt b) (nbCheckers T))
+  kinds-add : Adds kinds (lesserOf (viewAt b) (nbCheckers T) ++ officerOf (viewAt b) (nbCheckers T) (kindPlace Queen) ++ kingOf (viewAt b) (nbCheckers T))
   kinds-add = adds-then (adds-then lesser-add (queen-adds T b)) (king-adds T b)
 
 -- `checkers == EMPTY` says that their number is 0
@@ -72,7 +71,7 @@ none-is s h = bool-ext (eqb s 0) (eqb (size s) 0) to from
     from e = eq-eqb s 0 (empty 64 s h (count-none 64 (has s) (eqb-true (size s) 0 e)))
 
 -- none, one, two, or more
-by-number : (s : Scene) (n : ℕ) → cond (eqb n 0) (kindsOf s 0) (cond (eqb n 1) (kindsOf s 1) (cond (eqb n 2) (kindsOf s 2) [])) ≡ byCheckers s n
+by-number : (s : View) (n : ℕ) → cond (eqb n 0) (kindsOf s 0) (cond (eqb n 1) (kindsOf s 1) (cond (eqb n 2) (kindsOf s 2) [])) ≡ byCheckers s n
 unfolding byCheckers
 by-number s n = pick (eqb n 0) refl (eqb n 1) refl (eqb n 2) refl
   where
@@ -94,38 +93,36 @@ by-number s n = pick (eqb n 0) refl (eqb n 1) refl (eqb n 2) refl
 by-checkers : (b : Board) → b .checkers < 2 ^ 64
     → Adds (if b .checkers == EMPTY then kinds NotInCheck b
     else if size (b .checkers) == 1 then kinds InSimpleCheck b
-    else if size (b .checkers) == 2 then lesser InDoubleCheck b else skip) (byCheckers (sceneAt b) (size (b .checkers)))
+    else if size (b .checkers) == 2 then lesser InDoubleCheck b else skip) (byCheckers (viewAt b) (size (b .checkers)))
 unfolding kindsOf
 by-checkers b h =
     let n = size (b .checkers) in
-    let s = sceneAt b in
+    let s = viewAt b in
     adds-same
     (adds-if (b .checkers == EMPTY) (kinds-add NotInCheck b) (adds-if (n == 1) (kinds-add InSimpleCheck b) (adds-if (n == 2) (lesser-add InDoubleCheck b) adds-skip)))
     (ap (λ (t : Bool). cond t (kindsOf s 0) (cond (n == 1) (kindsOf s 1) (cond (n == 2) (kindsOf s 2) []))) (none-is (b .checkers) h) ∙ by-number s n)
 
 -- the state decides first
-by-state : (b : Board) (e : EnPassantFlag) → ((sq : ℕ) → e ≡ Some sq → sq < 64) → (run : Run) → Adds run (byCheckers (sceneAt b) (size (b .checkers)))
-    → Adds (ifNamed e (λ src. push (entryOf src (fileSet (file src) & rankSet (toSecondRank (opp (b .turn)))) Forbidden false)) run) (byState e (sceneAt b))
-unfolding namedOf sceneOf
+by-state : (b : Board) (e : EnPassantFlag) → ((sq : ℕ) → e ≡ Some sq → sq < 64) → (run : Run) → Adds run (byCheckers (viewAt b) (size (b .checkers)))
+    → Adds (ifNamed e (λ src. push (entryOf src (fileSet (file src) & rankSet (toSecondRank (opp (b .turn)))) Forbidden false)) run) (byState e (viewAt b))
+unfolding namedOf viewOf
 by-state b Any h run p = p
 by-state b None h run p = p
 by-state b (Some sq) h run p =
     adds-same (adds-push (entryOf sq (fileSet (file sq) & rankSet (toSecondRank (opp (b .turn)))) Forbidden false))
-    (ap₂ (λ (q r : ℕ). entryOf q (fileSet (file q) & rankSet r) Forbidden false ∷ []) (sym (mod-eq-of-lt (h sq refl))) (second-is (opp (b .turn))))
+    (ap (λ (q : ℕ). entryOf q (fileSet (file q) & rankSet (toSecondRank (opp (b .turn)))) Forbidden false ∷ []) (sym (mod-eq-of-lt (h sq refl))))
 
 new-adds : {run : Run} {es : List SourceAndTargets} → Adds run es → fromNew run ≡ es
 unfolding fromNew
 new-adds p = p .added []
 
-pub listed-same : (b : Board) → Typed b
-    → enumerateRetractions b ≡ listOf (b .pieces) (b .colors) (b .combined) (b .turn) (b .white) (b .black) (b .pinned) (b .checkers) (b .passant)
-unfolding enumerateRetractions listOf listedOf sceneOf _>>_
+pub listed-same : (b : Board) → Typed b → enumerateRetractions b ≡ listOf (viewAt b)
+unfolding enumerateRetractions listOf viewOf _>>_
 listed-same b t = new-adds (by-state b (b .passant) (t .square-fits) _ (by-checkers b (t .checkers-fit)))
 
-pub officers-same : (b : Board)
-    → officerRetractions b ≡ officerListOf (b .pieces) (b .colors) (b .combined) (b .turn) (b .white) (b .black) (b .pinned) (b .checkers) (b .passant)
-unfolding officerRetractions officerListOf officersOf _>>_
-officers-same b =
+pub limited-same : (b : Board) → limitedRetractions b ≡ allButPawns (viewAt b)
+unfolding limitedRetractions allButPawns _>>_
+limited-same b =
     new-adds
     (adds-then (adds-then (adds-then (adds-then (knight-adds NotInCheck b) (bishop-adds NotInCheck b)) (rook-adds NotInCheck b)) (queen-adds NotInCheck b))
     (king-adds NotInCheck b))
@@ -139,6 +136,5 @@ accepted-typed b ok = record {
       (subst (λ (f : EnPassantFlag). stateOk (posOf b .men) (b .turn) f ≡ true) e (accepts (posOf b) (right _ _ (left _ _ ok)) .state)) .on-board;
 }
 
-pub accepted-same : (b : Board) → acceptedBoard b ≡ true
-    → enumerateRetractions b ≡ listOf (b .pieces) (b .colors) (b .combined) (b .turn) (b .white) (b .black) (b .pinned) (b .checkers) (b .passant)
+pub accepted-same : (b : Board) → acceptedBoard b ≡ true → enumerateRetractions b ≡ listOf (viewAt b)
 accepted-same b ok = listed-same b (accepted-typed b ok)

@@ -6,15 +6,15 @@ use lib.Dec.{eqb}
 use lib.Bits.{bitXor, xor-lt}
 use Rattle.squares.specs.Members.{members, concat}
 use Rattle.laws.specs.Boards.{Board}
-use Rattle.scene.specs.Chess.{knightMoves, bishopMoves, rookMoves}
-use Rattle.scene.specs.Scenes.{sceneOf}
+use Rattle.geometry.specs.Chess.{knightMoves, bishopMoves, rookMoves}
+use Rattle.view.specs.Views.{viewOf}
 use Rattle.officers.specs.Officers.{movesOf, stepsOf, quietOf, fromOf, eachOf}
 use Rattle.squares.proofs.Comprehension.{upTo-lt}
 use Rattle.piece_type.specs.Bitboards.{_&_, !_, EMPTY}
 use Rattle.piece_type.specs.Statements.{for}
 use Rattle.piece_type.proofs.Sets.{and-all}
 use Rattle.piece_type.proofs.Adding.{Adds, adds-same, offer, adds-offer, adds-for}
-use Rattle.piece_type.proofs.Scenes.{sceneAt, oppKsqOf, king-is, capturing, capturing-is}
+use Rattle.piece_type.proofs.Views.{viewAt, oppKsqOf, king-is, capturing, capturing-is}
 
 moves-lt : (k sq occ : ℕ) → movesOf k sq occ < 2 ^ 64
 unfolding movesOf
@@ -30,14 +30,14 @@ moves-lt k sq occ = go (eqb k 1) (eqb k 2) (eqb k 3)
 abbrev pub quiet : Board → ℕ → ℕ → ℕ
 quiet b k occ = ! (movesOf k (oppKsqOf b) occ & ! EMPTY)
 
-pub quiet-is : (b : Board) (k occ : ℕ) → quiet b k occ ≡ quietOf (sceneAt b) k occ
+pub quiet-is : (b : Board) (k occ : ℕ) → quiet b k occ ≡ quietOf (viewAt b) k occ
 unfolding quietOf
 quiet-is b k occ = ap !_ (and-all _ (moves-lt k (oppKsqOf b) occ) ∙ ap (λ (x : ℕ). movesOf k x occ) (king-is b))
 
 -- a loop over the men of the set
-pub each-adds : (b : Board) (k allowed : ℕ) {set set′ : ℕ} (targets : ℕ → ℕ) → set ≡ set′ → ((src : ℕ) → targets src ≡ stepsOf (sceneAt b) k src & allowed)
-    → Adds (for set (λ src. offer src (targets src) (capturing b src) false)) (eachOf (sceneAt b) k allowed set′)
-unfolding eachOf fromOf sceneOf
+pub each-adds : (b : Board) (k allowed : ℕ) {set set′ : ℕ} (targets : ℕ → ℕ) → set ≡ set′ → ((src : ℕ) → targets src ≡ stepsOf (viewAt b) k src & allowed)
+    → Adds (for set (λ src. offer src (targets src) (capturing b src) false)) (eachOf (viewAt b) k allowed set′)
+unfolding eachOf fromOf viewOf
 each-adds b k allowed {set} targets q e =
-    adds-same (adds-for _ (fromOf (sceneAt b) k allowed) (λ src h. adds-offer src false (e src) (capturing-is b src h)) set)
-    (ap (λ (x : ℕ). concat (fromOf (sceneAt b) k allowed) (members x)) q)
+    adds-same (adds-for _ (fromOf (viewAt b) k allowed) (λ src h. adds-offer src false (e src) (capturing-is b src h)) set)
+    (ap (λ (x : ℕ). concat (fromOf (viewAt b) k allowed) (members x)) q)

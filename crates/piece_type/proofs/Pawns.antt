@@ -9,17 +9,17 @@ use Rattle.squares.specs.Squares.{rank, has, only}
 use Rattle.squares.specs.Members.{firstOf, members, concat}
 use Rattle.geometry.specs.declared.Color.{Color}
 use Rattle.geometry.specs.declared.Color.the-variants.{White, Black}
-use Rattle.geometry.specs.Colors.{opp}
+use Rattle.geometry.specs.Colors.{opp, ownRank, backOf}
 use Rattle.geometry.specs.Lines.{betweenOf}
 use Rattle.laws.specs.declared.EnPassantFlag.{EnPassantFlag}
 use Rattle.laws.specs.declared.EnPassantFlag.the-variants.{Any, Some, None}
 use Rattle.laws.specs.Boards.{Board}
-use Rattle.roll.specs.declared.UnCaptureKind.the-variants.{Necessary, Forbidden, UnEnPassant}
-use Rattle.scene.specs.declared.Scene.{Scene}
-use Rattle.scene.specs.Chess.{rankSet, ownRank, adjacentFiles, backOf, pawnAttacks, lineOf}
-use Rattle.scene.specs.Scenes.{within, sceneOf}
-use Rattle.pawns.specs.Pawns.{pawnsOf, checkMask, firstRank, candidateRetractors, otherRayOf, allowsOf, capturersOf, doubledOf, crossedOf, vacantOf, homeOf, unpushOf, uncaptureOf, promotedOf, fromOf, stepsOf}
-use Rattle.passants.specs.Passants.{besidePlain, besideReborn, underOne, raysOf, oneOfTwo, twoOthers, underTwo, underOf, passantAt, passantOf, pawnOf}
+use Rattle.retraction_list.specs.declared.UnCaptureKind.the-variants.{Necessary, Forbidden, UnEnPassant}
+use Rattle.view.specs.declared.View.{View}
+use Rattle.geometry.specs.Chess.{rankSet, adjacentFiles, pawnAttacks, lineOf}
+use Rattle.view.specs.Views.{within, viewOf}
+use Rattle.un_en_passant.specs.UnEnPassants.{pawnsOf, checkMask, vacantOf, besidePlain, besideReborn, underOne, raysOf, oneOfTwo, twoOthers, underTwo, underOf, passantAt, passantOf, unEnPassantsOf}
+use Rattle.pawns.specs.Pawns.{firstRank, candidateRetractors, otherRayOf, allowsOf, capturersOf, doubledOf, crossedOf, homeOf, unpushOf, uncaptureOf, promotedOf, fromOf, stepsOf, pawnOf}
 use Rattle.squares.proofs.Comprehension.{upTo-lt}
 use Rattle.piece_type.specs.Bitboards.{_&_, !_, _¦_, _==_, _!=_, if_then_else_, EMPTY, fromSquare, toSquare}
 use Rattle.piece_type.specs.Squares.{getPawnAttacks}
@@ -28,7 +28,7 @@ use Rattle.piece_type.specs.PieceTypes.{CheckType, NotInCheck, InSimpleC
 use Rattle.piece_type.specs.Pawns.{pushUnseen, epRankOf, unchecking, legals}
 use Rattle.piece_type.proofs.Sets.{and-assoc, and-all, meets-none}
 use Rattle.piece_type.proofs.Adding.{Adds, adds-same, adds-then, adds-skip, adds-if, offer, adds-offer, adds-for}
-use Rattle.piece_type.proofs.Scenes.{sceneAt, maskOf, oppKsqOf, king-is, meets-some}
+use Rattle.piece_type.proofs.Views.{viewAt, maskOf, oppKsqOf, king-is, meets-some}
 
 back-lt : (c : Color) (sq : ℕ) → backOf c sq < 64
 unfolding backOf
@@ -60,7 +60,7 @@ and-first a b c d e f =
     ∙ ap (λ (x : ℕ). x & f) (and-assoc a (b & c & d) e) ∙ and-assoc a (b & c & d & e) f
 
 -- 308 to 333
-unchecked : (T : CheckType) (s : Scene) (src reborn targets : ℕ) → src < 64 → reborn < 64
+unchecked : (T : CheckType) (s : View) (src reborn targets : ℕ) → src < 64 → reborn < 64
     → unchecking T (s .checkers) (s .oppking) src reborn targets ≡ underOf s (nbCheckers T) src reborn targets
 unfolding unchecking underOf underOne underTwo oneOfTwo twoOthers raysOf _and_
 unchecked NotInCheck s src reborn targets h g = refl
@@ -78,8 +78,8 @@ unchecked InDoubleCheck s src reborn targets h g =
     ∙ ap (λ (x : ℕ). if has (s .checkers) src then one (has ray reborn) else x & rays) (cond-not (has rays reborn) EMPTY targets)
 
 module _ (b : Board) (T : CheckType) where
-  abbrev s : Scene
-  s = sceneAt b
+  abbrev s : View
+  s = viewAt b
 
   abbrev n : ℕ
   n = nbCheckers T
@@ -95,14 +95,14 @@ module _ (b : Board) (T : CheckType) where
   mask = getPawnAttacks oppKsq (opp c) (! EMPTY)
 
   mask-is : mask ≡ checkMask s
-  unfolding sceneOf
+  unfolding viewOf
   mask-is = and-all _ (upTo-lt 64 _) ∙ ap (pawnAttacks (opp c)) (king-is b)
 
   abbrev ray : ℕ → ℕ
   ray src = if n == 0 or (n == 1 and toSquare (b .checkers) == src) then ! EMPTY else betweenOf (toSquare (b .checkers & ! fromSquare src)) oppKsq
 
   ray-is : (src : ℕ) → ray src ≡ otherRayOf s n src
-  unfolding otherRayOf sceneOf
+  unfolding otherRayOf viewOf
   ray-is src =
       let other = firstOf (b .checkers & ! fromSquare src) in
       ap (λ (k : ℕ). if n == 0 or (n == 1 and firstOf (b .checkers) == src) then ! EMPTY else betweenOf other k) (king-is b)
@@ -111,7 +111,7 @@ module _ (b : Board) (T : CheckType) where
   home src = ! b .combined & ! mask & ! firstRank s & ray src & s .mask
 
   home-is : (src : ℕ) → home src ≡ homeOf s (otherRayOf s n src)
-  unfolding homeOf vacantOf sceneOf
+  unfolding homeOf vacantOf viewOf
   home-is src = ap₂ (λ (m r : ℕ). ! b .combined & ! m & ! firstRank s & r & s .mask) mask-is (ray-is src)
 
   abbrev crossing : ℕ → ℕ → ℕ
@@ -120,7 +120,7 @@ module _ (b : Board) (T : CheckType) where
       then fromSquare crossed ¦ fromSquare (backOf c crossed) else fromSquare crossed
 
   crossing-is : (src crossed : ℕ) → crossed < 64 → crossing src crossed ≡ crossedOf s src crossed
-  unfolding crossedOf doubledOf sceneOf
+  unfolding crossedOf doubledOf viewOf
   crossing-is src crossed h =
       ap₂ (λ (t u : Bool). cond (rank src == ownRank c 3 and t and u) (fromSquare crossed ¦ fromSquare (backOf c crossed)) (fromSquare crossed))
       (unseen-is (b .passant) (capturersOf src & s .rivals == EMPTY)) (meets-none crossed (b .combined) h)
@@ -130,7 +130,7 @@ module _ (b : Board) (T : CheckType) where
       if fromSquare src & b .pinned != EMPTY then crossing src (backOf c src) & home src & lineOf src oppKsq else crossing src (backOf c src) & home src
 
   unpush-is : (src : ℕ) → src < 64 → unpush src ≡ unpushOf s (otherRayOf s n src) src
-  unfolding unpushOf sceneOf
+  unfolding unpushOf viewOf
   unpush-is src h =
       let x = crossing src (backOf c src) & home src in
       ap (λ (t : Bool). if t then x & lineOf src oppKsq else x) (meets-some src (b .pinned) h)
@@ -140,7 +140,7 @@ module _ (b : Board) (T : CheckType) where
   uncapture src = getPawnAttacks src (opp c) (! b .combined) & ! mask & ! firstRank s & ray src & s .mask
 
   uncapture-is : (src : ℕ) → uncapture src ≡ uncaptureOf s (otherRayOf s n src) src
-  unfolding uncaptureOf sceneOf
+  unfolding uncaptureOf viewOf
   uncapture-is src =
       and-first (pawnAttacks (opp c) src) (! b .combined) (! mask) (! firstRank s) (ray src) (s .mask) ∙ ap (_&_ (pawnAttacks (opp c) src)) (home-is src)
 
@@ -156,7 +156,7 @@ module _ (b : Board) (T : CheckType) where
   beside src reborn = adjacentFiles src & rankSet (rank reborn) & ! b .combined & ! mask & s .mask
 
   beside-is : (src reborn : ℕ) → beside src reborn ≡ besidePlain s src reborn
-  unfolding vacantOf sceneOf
+  unfolding vacantOf viewOf
   beside-is src reborn =
       ap (λ (x : ℕ). x & s .mask) (and-assoc (adjacentFiles src & rankSet (rank reborn)) (! b .combined) (! mask))
       ∙ ap (λ (m : ℕ). adjacentFiles src & rankSet (rank reborn) & (! b .combined & ! m) & s .mask) mask-is
@@ -166,7 +166,7 @@ module _ (b : Board) (T : CheckType) where
       if fromSquare src & b .pinned != EMPTY and fromSquare reborn & lineOf src oppKsq == EMPTY then beside src reborn & lineOf src oppKsq else beside src reborn
 
   lined-is : (src reborn : ℕ) → src < 64 → reborn < 64 → lined src reborn ≡ besideReborn s src reborn
-  unfolding besideReborn sceneOf
+  unfolding besideReborn viewOf
   lined-is src reborn h g =
       let x = beside src reborn in
       let line = lineOf src oppKsq in
@@ -179,7 +179,7 @@ module _ (b : Board) (T : CheckType) where
 
   passant-adds : (src : ℕ) → src < 64 → let reborn = backOf c src in
       Adds (if blocked src then skip else offer src (unchecking T (b .checkers) oppKsq src reborn (lined src reborn)) UnEnPassant false) (passantOf s n src)
-  unfolding passantOf passantAt sceneOf
+  unfolding passantOf passantAt viewOf
   passant-adds src h =
       let reborn = backOf c src in
       adds-same
@@ -190,9 +190,9 @@ module _ (b : Board) (T : CheckType) where
       (ap₂ (λ (t u : Bool). if t or u then [] else passantAt s n src reborn)
       (meets-some (backOf (opp c) src) (b .combined) (back-lt (opp c) src)) (meets-some reborn (b .combined) (back-lt c src)))
 
-pub pawn-adds : (T : CheckType) (b : Board) → Adds (legals T b (maskOf b)) (pawnOf (sceneAt b) (nbCheckers T))
-unfolding legals pawnOf candidateRetractors within sceneOf
+pub pawn-adds : (T : CheckType) (b : Board) → Adds (legals T b (maskOf b)) (pawnOf (viewAt b) (nbCheckers T))
+unfolding legals pawnOf unEnPassantsOf candidateRetractors within viewOf
 pawn-adds T b =
     adds-then (steps-add b T)
-    (adds-same (adds-for _ (passantOf (sceneAt b) (nbCheckers T)) (passant-adds b T) _)
-    (ap (λ (x : ℕ). concat (passantOf (sceneAt b) (nbCheckers T)) (members (x & pawnsOf (sceneAt b)))) (rank-is (opp (b .turn)))))
+    (adds-same (adds-for _ (passantOf (viewAt b) (nbCheckers T)) (passant-adds b T) _)
+    (ap (λ (x : ℕ). concat (passantOf (viewAt b) (nbCheckers T)) (members (x & pawnsOf (viewAt b)))) (rank-is (opp (b .turn)))))

@@ -12,24 +12,25 @@ use Rattle.geometry.specs.Lines.{betweenOf}
 use Rattle.laws.specs.declared.Piece.{Piece}
 use Rattle.laws.specs.declared.Piece.the-variants.{Pawn, Knight, Bishop, Rook, Queen, King}
 use Rattle.laws.specs.Men.{kindPlace}
-use Rattle.laws.specs.Positions.{holds, short, long}
+use Rattle.laws.specs.Positions.{holds}
+use Rattle.laws.specs.declared.Side.the-variants.{Short as short, Long as long}
 use Rattle.laws.specs.Boards.{Board}
-use Rattle.roll.specs.declared.UnCaptureKind.the-variants.{Optional, Necessary}
-use Rattle.roll.specs.Roll.{offered, captureKind}
-use Rattle.scene.specs.declared.Scene.{Scene}
-use Rattle.scene.specs.Chess.{lineOf}
-use Rattle.scene.specs.Scenes.{within, sceneOf}
-use Rattle.officers.specs.Officers.{movesOf, menOf, stepsOf, quietOf, freeOf, eachOf, calmOf, aloneAt, aloneOf, rayOf, ontoOf, bothAt, bothOf, officerOf}
+use Rattle.retraction_list.specs.declared.UnCaptureKind.the-variants.{Optional, Necessary}
+use Rattle.retraction_list.specs.Entries.{offered, captureKind}
+use Rattle.view.specs.declared.View.{View}
+use Rattle.geometry.specs.Chess.{lineOf}
+use Rattle.view.specs.Views.{within, viewOf}
+use Rattle.officers.specs.Officers.{movesOf, kindMen, stepsOf, quietOf, freeOf, eachOf, calmOf, aloneAt, aloneOf, rayOf, ontoOf, bothAt, bothOf, officerOf}
 use Rattle.squares.proofs.Members.{first-lt}
 use Rattle.squares.proofs.Testing.{and-true}
 use Rattle.piece_type.specs.Bitboards.{_&_, !_, _==_, _!=_, EMPTY}
-use Rattle.piece_type.specs.Boards.{piecesOf, colorCombined, rightsAt}
+use Rattle.piece_type.specs.Boards.{piecesOf, colorCombined, castleRights}
 use Rattle.piece_type.specs.Statements.{_>>_, when, for}
 use Rattle.piece_type.specs.PieceTypes.{PieceType, CheckType, NotInCheck, InSimpleCheck, InDoubleCheck, nbCheckers, BishopType, RookType, QueenType}
 use Rattle.piece_type.specs.Sliders.{legals}
 use Rattle.piece_type.proofs.Sets.{and-assoc}
 use Rattle.piece_type.proofs.Adding.{Adds, adds-same, adds-then, adds-before, adds-when, adds-unless, adds-never, offer, adds-offer}
-use Rattle.piece_type.proofs.Scenes.{sceneAt, maskOf, oppKsqOf, king-is, capturing, capturing-is, rooksBy, rooks-are}
+use Rattle.piece_type.proofs.Views.{viewAt, maskOf, oppKsqOf, king-is, capturing, capturing-is, rights-are, rooksBy, rooks-are}
 use Rattle.piece_type.proofs.Officers.{quiet, quiet-is, each-adds}
 
 -- a kind whose moves are those of `movesOf`
@@ -37,8 +38,8 @@ abbrev sliderType : Piece → PieceType
 sliderType piece = record { intoPiece = piece; pseudoLegals = λ src color combined mask. movesOf (kindPlace piece) src combined & mask }
 
 module _ (b : Board) (piece : Piece) (slides : eqb (kindPlace piece) (kindPlace Knight) ≡ false) where
-  abbrev s : Scene
-  s = sceneAt b
+  abbrev s : View
+  s = viewAt b
 
   abbrev k : ℕ
   k = kindPlace piece
@@ -47,13 +48,13 @@ module _ (b : Board) (piece : Piece) (slides : eqb (kindPlace piece) (kindPlace 
   pieces = piecesOf b piece & colorCombined b (opp (b .turn))
 
   abbrev rooks : ℕ
-  rooks = rooksBy (opp (b .turn)) (holds (rightsAt b (opp (b .turn))) short) (holds (rightsAt b (opp (b .turn))) long)
+  rooks = rooksBy (opp (b .turn)) (holds (castleRights b (opp (b .turn))) short) (holds (castleRights b (opp (b .turn))) long)
 
-  pieces-are : pieces ≡ menOf s k
-  unfolding sceneOf within
+  pieces-are : pieces ≡ kindMen s k
+  unfolding viewOf within
   pieces-are = go piece
     where
-      go : (p : Piece) → piecesOf b p & colorCombined b (opp (b .turn)) ≡ menOf s (kindPlace p)
+      go : (p : Piece) → piecesOf b p & colorCombined b (opp (b .turn)) ≡ kindMen s (kindPlace p)
       go Pawn = refl
       go Knight = refl
       go Bishop = refl
@@ -62,23 +63,24 @@ module _ (b : Board) (piece : Piece) (slides : eqb (kindPlace piece) (kindPlace 
       go King = refl
 
   free-are : pieces & ! rooks ≡ freeOf s k
-  unfolding freeOf sceneOf
+  unfolding freeOf viewOf
   free-are =
-      ap₂ (λ (m r : ℕ). m & ! r) pieces-are (rooks-are (opp (b .turn)) _ _)
-      ∙ ap (λ (t : Bool). cond t (menOf s k) (menOf s k & ! s .corners)) (sym slides)
+      ap₂ (λ (m r : ℕ). m & ! r) pieces-are
+      (ap₂ (rooksBy (opp (b .turn))) (rights-are b (opp (b .turn)) short) (rights-are b (opp (b .turn)) long) ∙ rooks-are (opp (b .turn)) _ _)
+      ∙ ap (λ (t : Bool). cond t (kindMen s k) (kindMen s k & ! s .corners)) (sym slides)
 
   checking-are : b .checkers & pieces & ! rooks ≡ b .checkers & freeOf s k
   checking-are = and-assoc (b .checkers) pieces (! rooks) ∙ ap (_&_ (b .checkers)) free-are
 
   calm-adds : Adds (for (pieces & ! rooks) (λ src. offer src (stepsOf s k src & quiet b k (b .combined)) (capturing b src) false)) (calmOf s k)
-  unfolding calmOf sceneOf
+  unfolding calmOf viewOf
   calm-adds = each-adds b k (quietOf s k (b .combined)) _ free-are (λ src. ap (_&_ (stepsOf s k src)) (quiet-is b k (b .combined)))
 
   alone-adds : let src = firstOf (b .checkers) in
       Adds (when (b .checkers & pieces & ! rooks != EMPTY)
       (offer src (stepsOf s k src & quiet b k (b .combined & ! b .checkers)) (capturing b src) false
       >> offer src (lineOf (oppKsqOf b) src & stepsOf s k src & quiet b k (b .combined)) Necessary false)) (aloneOf s k)
-  unfolding aloneOf aloneAt sceneOf
+  unfolding aloneOf aloneAt viewOf
   alone-adds =
       let src = firstOf (b .checkers) in
       adds-same
@@ -91,7 +93,7 @@ module _ (b : Board) (piece : Piece) (slides : eqb (kindPlace piece) (kindPlace 
   onto-adds : let ray = betweenOf (firstOf (b .checkers)) (oppKsqOf b) in
       Adds (when (k != kindPlace Queen and b .checkers & pieces == EMPTY)
       (for (pieces & ! rooks) (λ src. offer src (stepsOf s k src & ray & quiet b k (b .combined)) (capturing b src) false))) (ontoOf s k)
-  unfolding ontoOf sceneOf
+  unfolding ontoOf viewOf
   onto-adds =
       let allowed = rayOf s & quietOf s k (b .combined) in
       adds-same
@@ -104,7 +106,7 @@ module _ (b : Board) (piece : Piece) (slides : eqb (kindPlace piece) (kindPlace 
 
   both-at : (src other : ℕ) → src < 64
       → Adds (offer src (betweenOf other (oppKsqOf b) & stepsOf s k src & quiet b k (b .combined)) (capturing b src) false) (bothAt s k src other)
-  unfolding bothAt sceneOf
+  unfolding bothAt viewOf
   both-at src other h =
       adds-offer src false (ap₂ (λ (x q : ℕ). betweenOf other x & stepsOf s k src & q) (king-is b) (quiet-is b k (b .combined)))
       (capturing-is b src h
@@ -113,7 +115,7 @@ module _ (b : Board) (piece : Piece) (slides : eqb (kindPlace piece) (kindPlace 
   both-adds : let src = firstOf (b .checkers & pieces) in
       Adds (when (b .checkers & pieces & ! rooks != EMPTY and b .checkers & ! pieces != EMPTY)
       (offer src (betweenOf (firstOf (b .checkers & ! pieces)) (oppKsqOf b) & stepsOf s k src & quiet b k (b .combined)) (capturing b src) false)) (bothOf s k)
-  unfolding bothOf sceneOf
+  unfolding bothOf viewOf
   both-adds =
       adds-same
       (adds-when (b .checkers & pieces & ! rooks != EMPTY and b .checkers & ! pieces != EMPTY)
@@ -122,20 +124,20 @@ module _ (b : Board) (piece : Piece) (slides : eqb (kindPlace piece) (kindPlace 
       checking-are pieces-are)
 
 slider-adds : (piece : Piece) → eqb (kindPlace piece) (kindPlace Knight) ≡ false
-    → (T : CheckType) (b : Board) → Adds (legals (sliderType piece) T b (maskOf b)) (officerOf (sceneAt b) (nbCheckers T) (kindPlace piece))
-unfolding legals officerOf stepsOf sceneOf _and_
+    → (T : CheckType) (b : Board) → Adds (legals (sliderType piece) T b (maskOf b)) (officerOf (viewAt b) (nbCheckers T) (kindPlace piece))
+unfolding legals officerOf stepsOf viewOf _and_
 slider-adds piece slides NotInCheck b = adds-before (adds-when true (calm-adds b piece slides)) (adds-then (adds-never _) (adds-then (adds-never _) (adds-never _)))
 slider-adds piece slides InSimpleCheck b = adds-then (adds-never _) (adds-then (alone-adds b piece slides) (adds-before (onto-adds b piece slides) (adds-never _)))
 slider-adds piece slides InDoubleCheck b = adds-then (adds-never _) (adds-then (adds-never _) (adds-then (adds-never _) (both-adds b piece slides)))
 
-pub bishop-adds : (T : CheckType) (b : Board) → Adds (legals BishopType T b (maskOf b)) (officerOf (sceneAt b) (nbCheckers T) (kindPlace Bishop))
+pub bishop-adds : (T : CheckType) (b : Board) → Adds (legals BishopType T b (maskOf b)) (officerOf (viewAt b) (nbCheckers T) (kindPlace Bishop))
 unfolding movesOf
 bishop-adds = slider-adds Bishop refl
 
-pub rook-adds : (T : CheckType) (b : Board) → Adds (legals RookType T b (maskOf b)) (officerOf (sceneAt b) (nbCheckers T) (kindPlace Rook))
+pub rook-adds : (T : CheckType) (b : Board) → Adds (legals RookType T b (maskOf b)) (officerOf (viewAt b) (nbCheckers T) (kindPlace Rook))
 unfolding movesOf
 rook-adds = slider-adds Rook refl
 
-pub queen-adds : (T : CheckType) (b : Board) → Adds (legals QueenType T b (maskOf b)) (officerOf (sceneAt b) (nbCheckers T) (kindPlace Queen))
+pub queen-adds : (T : CheckType) (b : Board) → Adds (legals QueenType T b (maskOf b)) (officerOf (viewAt b) (nbCheckers T) (kindPlace Queen))
 unfolding movesOf
 queen-adds = slider-adds Queen refl

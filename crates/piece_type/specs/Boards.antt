@@ -2,14 +2,14 @@
 use mathlib.Core.Bool.{Bool, true, false}
 use Prim.Native.Nat.{ℕ}
 use Rattle.geometry.specs.declared.Color.{Color}
+use Rattle.geometry.specs.declared.Color.the-variants.{White, Black}
 use Rattle.geometry.specs.Colors.{opp}
 use Rattle.laws.specs.declared.Piece.{Piece}
 use Rattle.laws.specs.declared.Piece.the-variants.{Pawn, Knight, Bishop, Rook, Queen, King}
 use Rattle.laws.specs.declared.CastleRights.{CastleRights}
 use Rattle.laws.specs.declared.CastleRights.the-variants.{NoRights, KingSide, QueenSide, Both}
 use Rattle.laws.specs.Boards.{Board, kindSet, colorSet}
-use Rattle.scene.specs.Chess.{knightMoves, kingMoves, bishopMoves, rookMoves}
-use Rattle.scene.specs.Scenes.{castleRights}
+use Rattle.geometry.specs.Chess.{knightMoves, kingMoves, bishopMoves, rookMoves}
 use Rattle.piece_type.specs.Bitboards.{_&_, _¦_, _!=_, EMPTY, toSquare}
 use Rattle.piece_type.specs.Squares.{getPawnAttacks}
 
@@ -20,9 +20,10 @@ piecesOf board piece = kindSet (board .pieces) piece
 abbrev pub colorCombined : Board → Color → ℕ
 colorCombined board color = colorSet (board .colors) color
 
--- `board.castle_rights(color)`, and its test `!= CastleRights::NoRights`
-abbrev pub rightsAt : Board → Color → CastleRights
-rightsAt board color = castleRights color (board .white) (board .black)
+-- `board.castle_rights(color)` (board.rs, 247), and its test `!= CastleRights::NoRights`
+abbrev pub castleRights : Board → Color → CastleRights
+castleRights board White = board .white
+castleRights board Black = board .black
 
 abbrev pub notNoRights : CastleRights → Bool
 notNoRights NoRights = false

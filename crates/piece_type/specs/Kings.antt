@@ -7,12 +7,12 @@ use Rattle.geometry.specs.Colors.{opp}
 use Rattle.geometry.specs.Lines.{betweenOf}
 use Rattle.laws.specs.declared.Piece.the-variants.{Rook}
 use Rattle.laws.specs.Boards.{Board}
-use Rattle.roll.specs.declared.UnCaptureKind.the-variants.{Optional, Necessary, Forbidden}
-use Rattle.roll.specs.Roll.{entryOf}
-use Rattle.scene.specs.Chess.{rookMoves}
+use Rattle.retraction_list.specs.declared.UnCaptureKind.the-variants.{Optional, Necessary, Forbidden}
+use Rattle.retraction_list.specs.Entries.{entryOf}
+use Rattle.geometry.specs.Chess.{rookMoves}
 use Rattle.piece_type.specs.Bitboards.{_&_, !_, _==_, _!=_, if_then_else_, EMPTY, fromSquare, toSquare}
 use Rattle.piece_type.specs.Squares.{toMyBackrank, uleft, uright}
-use Rattle.piece_type.specs.Boards.{piecesOf, colorCombined, rightsAt, notNoRights, kingSquare, isAttacked}
+use Rattle.piece_type.specs.Boards.{piecesOf, colorCombined, castleRights, notNoRights, kingSquare, isAttacked}
 use Rattle.piece_type.specs.Statements.{Run, _>>_, push, skip, when}
 use Rattle.piece_type.specs.PieceTypes.{CheckType, nbCheckers, KingType}
 
@@ -27,7 +27,7 @@ legals T board mask = do
   let pinned = board .pinned
   let myPieces = colorCombined board retractingColor
   -- 515 to 517: `return`
-  if notNoRights (rightsAt board retractingColor) then skip else do
+  if notNoRights (castleRights board retractingColor) then skip else do
     -- 519 to 525
     let targets =
         Self .pseudoLegals src retractingColor combined mask & ! Self .pseudoLegals oppKsq (opp retractingColor) combined mask & ! combined

@@ -5,9 +5,9 @@ use Rattle.squares.specs.Tests.{_and_}
 use Rattle.geometry.specs.Colors.{opp}
 use Rattle.geometry.specs.Lines.{betweenOf}
 use Rattle.laws.specs.Boards.{Board}
-use Rattle.roll.specs.declared.UnCaptureKind.{UnCaptureKind}
-use Rattle.roll.specs.declared.UnCaptureKind.the-variants.{Optional, Necessary}
-use Rattle.roll.specs.Roll.{entryOf}
+use Rattle.retraction_list.specs.declared.UnCaptureKind.{UnCaptureKind}
+use Rattle.retraction_list.specs.declared.UnCaptureKind.the-variants.{Optional, Necessary}
+use Rattle.retraction_list.specs.Entries.{entryOf}
 use Rattle.piece_type.specs.Bitboards.{_&_, !_, _==_, _!=_, if_then_else_, EMPTY, fromSquare, toSquare}
 use Rattle.piece_type.specs.Boards.{piecesOf, colorCombined, kingSquare}
 use Rattle.piece_type.specs.Statements.{Run, _>>_, push, when, for}

@@ -8,10 +8,10 @@ use Rattle.geometry.specs.Colors.{opp}
 use Rattle.laws.specs.declared.EnPassantFlag.{EnPassantFlag}
 use Rattle.laws.specs.declared.EnPassantFlag.the-variants.{Any, Some, None}
 use Rattle.laws.specs.Boards.{Board}
-use Rattle.roll.specs.declared.SourceAndTargets.{SourceAndTargets}
-use Rattle.roll.specs.declared.UnCaptureKind.the-variants.{Forbidden}
-use Rattle.roll.specs.Roll.{entryOf}
-use Rattle.scene.specs.Chess.{fileSet, rankSet}
+use Rattle.retraction_list.specs.declared.SourceAndTargets.{SourceAndTargets}
+use Rattle.retraction_list.specs.declared.UnCaptureKind.the-variants.{Forbidden}
+use Rattle.retraction_list.specs.Entries.{entryOf}
+use Rattle.geometry.specs.Chess.{fileSet, rankSet}
 use Rattle.piece_type.specs.Bitboards.{_&_, !_, _==_, if_then_else_, EMPTY}
 use Rattle.piece_type.specs.Squares.{toSecondRank}
 use Rattle.piece_type.specs.Boards.{colorCombined}
@@ -61,8 +61,8 @@ enumerateRetractions board = fromNew do
         else skip
 
 -- 289 to 295, and 312 to 318 of the flipped board
-unfoldable pub officerRetractions : Board → List SourceAndTargets
-officerRetractions board = fromNew do
+unfoldable pub limitedRetractions : Board → List SourceAndTargets
+limitedRetractions board = fromNew do
   let mask = ! colorCombined board (board .turn)
   knights.legals NotInCheck board mask
   sliders.legals BishopType NotInCheck board mask

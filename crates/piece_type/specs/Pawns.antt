@@ -13,9 +13,9 @@ use Rattle.laws.specs.declared.Piece.the-variants.{Pawn}
 use Rattle.laws.specs.declared.EnPassantFlag.{EnPassantFlag}
 use Rattle.laws.specs.declared.EnPassantFlag.the-variants.{Any, Some, None}
 use Rattle.laws.specs.Boards.{Board}
-use Rattle.roll.specs.declared.UnCaptureKind.the-variants.{Necessary, Forbidden, UnEnPassant}
-use Rattle.roll.specs.Roll.{entryOf}
-use Rattle.scene.specs.Chess.{rankSet, adjacentFiles, lineOf}
+use Rattle.retraction_list.specs.declared.UnCaptureKind.the-variants.{Necessary, Forbidden, UnEnPassant}
+use Rattle.retraction_list.specs.Entries.{entryOf}
+use Rattle.geometry.specs.Chess.{rankSet, adjacentFiles, lineOf}
 use Rattle.piece_type.specs.Bitboards.{_&_, !_, _¦_, _==_, _!=_, if_then_else_, EMPTY, fromSquare, toSquare}
 use Rattle.piece_type.specs.Squares.{toMyBackrank, toFourthRank, toTheirBackrank, ubackward, uforward, getPawnAttacks}
 use Rattle.piece_type.specs.Boards.{piecesOf, colorCombined, kingSquare}

@@ -4,7 +4,7 @@ use Rattle.geometry.specs.declared.Color.{Color}
 use Rattle.geometry.specs.Colors.{opp}
 use Rattle.laws.specs.declared.Piece.{Piece}
 use Rattle.laws.specs.declared.Piece.the-variants.{Pawn, Knight, Bishop, Rook, Queen, King}
-use Rattle.scene.specs.Chess.{knightMoves, kingMoves, bishopMoves, rookMoves}
+use Rattle.geometry.specs.Chess.{knightMoves, kingMoves, bishopMoves, rookMoves}
 use Rattle.piece_type.specs.Bitboards.{_&_, !_, _⊻_}
 use Rattle.piece_type.specs.Squares.{getPawnAttacks, getPawnQuiets}
 

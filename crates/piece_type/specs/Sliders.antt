@@ -6,15 +6,16 @@ use Rattle.geometry.specs.Colors.{opp}
 use Rattle.geometry.specs.Lines.{betweenOf}
 use Rattle.laws.specs.declared.Piece.the-variants.{Queen}
 use Rattle.laws.specs.Men.{kindPlace}
-use Rattle.laws.specs.Positions.{holds, short, long}
+use Rattle.laws.specs.Positions.{holds}
+use Rattle.laws.specs.declared.Side.the-variants.{Short as short, Long as long}
 use Rattle.laws.specs.Boards.{Board}
-use Rattle.roll.specs.declared.UnCaptureKind.{UnCaptureKind}
-use Rattle.roll.specs.declared.UnCaptureKind.the-variants.{Optional, Necessary}
-use Rattle.roll.specs.Roll.{entryOf}
-use Rattle.scene.specs.Chess.{lineOf}
+use Rattle.retraction_list.specs.declared.UnCaptureKind.{UnCaptureKind}
+use Rattle.retraction_list.specs.declared.UnCaptureKind.the-variants.{Optional, Necessary}
+use Rattle.retraction_list.specs.Entries.{entryOf}
+use Rattle.geometry.specs.Chess.{lineOf}
 use Rattle.piece_type.specs.Bitboards.{_&_, !_, _⊻_, _==_, _!=_, if_then_else_, EMPTY, fromSquare, toSquare}
 use Rattle.piece_type.specs.Squares.{toMyBackrank, makeSquare}
-use Rattle.piece_type.specs.Boards.{piecesOf, colorCombined, rightsAt, kingSquare}
+use Rattle.piece_type.specs.Boards.{piecesOf, colorCombined, castleRights, kingSquare}
 use Rattle.piece_type.specs.Statements.{Run, _>>_, push, when, for}
 use Rattle.piece_type.specs.PieceTypes.{PieceType, CheckType, nbCheckers}
 
@@ -33,9 +34,9 @@ legals Self T board mask = do
   -- 38 to 50: `has_kingside`, `has_queenside`, `File::H`, `File::A`
   let castlingRooks = EMPTY
   let castlingRooks =
-      if holds (rightsAt board retractingColor) short then castlingRooks ⊻ fromSquare (makeSquare (toMyBackrank retractingColor) 7) else castlingRooks
+      if holds (castleRights board retractingColor) short then castlingRooks ⊻ fromSquare (makeSquare (toMyBackrank retractingColor) 7) else castlingRooks
   let castlingRooks =
-      if holds (rightsAt board retractingColor) long then castlingRooks ⊻ fromSquare (makeSquare (toMyBackrank retractingColor) 0) else castlingRooks
+      if holds (castleRights board retractingColor) long then castlingRooks ⊻ fromSquare (makeSquare (toMyBackrank retractingColor) 0) else castlingRooks
   -- 52 to 70
   when (nbCheckers T == 0) do
     let checkMask = Self .pseudoLegals oppKsq retractingColor combined (! EMPTY)

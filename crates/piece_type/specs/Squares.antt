@@ -1,11 +1,11 @@
--- What piece_type.rs asks of the crate `chess` beyond scene/specs/Chess.antt. Ranks and files are counted from 0, so `File::H` is 7.
+-- What piece_type.rs asks of the crate `chess` beyond geometry/specs/Chess.antt. Ranks and files are counted from 0, so `File::H` is 7.
 use Prim.Native.Nat.{ℕ, _+_, _*_, _%_}
 use Rattle.squares.specs.Squares.{file, rank, setOf}
 use Rattle.squares.specs.Tests.{_or_}
 use Rattle.geometry.specs.declared.Color.{Color}
-use Rattle.geometry.specs.Colors.{opp}
+use Rattle.geometry.specs.Colors.{opp, ownRank, backOf}
 use Rattle.geometry.specs.Steps.{pawnStep, pawnDouble}
-use Rattle.scene.specs.Chess.{ownRank, backOf, pawnAttacks}
+use Rattle.geometry.specs.Chess.{pawnAttacks}
 use Rattle.piece_type.specs.Bitboards.{_&_, !_, _!=_, if_then_else_, EMPTY, fromSquare}
 
 -- `color.to_my_backrank()`, `to_second_rank`, `to_fourth_rank`, `to_their_backrank`

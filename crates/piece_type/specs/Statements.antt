@@ -4,7 +4,7 @@ use mathlib.Core.Bool.{Bool, cond}
 use mathlib.Core.List.{List, [], _∷_, _++_}
 use Prim.Native.Nat.{ℕ}
 use Rattle.squares.specs.Members.{members, forEach}
-use Rattle.roll.specs.declared.SourceAndTargets.{SourceAndTargets}
+use Rattle.retraction_list.specs.declared.SourceAndTargets.{SourceAndTargets}
 
 abbrev pub Run : Type 0
 Run = List SourceAndTargets → List SourceAndTargets
@@ -13,7 +13,7 @@ infixl 20 _>>_
 unfoldable pub _>>_ : Run → Run → Run
 _>>_ first next movelist = next (first movelist)
 
--- `movelist.push_unchecked(entry)`; of a 48th entry the Rust says nothing, and `answerOf` (roll) says FULL
+-- `movelist.push_unchecked(entry)`; of a 48th entry the Rust says nothing, and `answerOf` (retraction_list) says FULL
 unfoldable pub push : SourceAndTargets → Run
 push entry movelist = movelist ++ (entry ∷ [])
 

@@ -6,12 +6,11 @@ use Prim.Native.Nat.{ℕ, _<_, _^_, _-_}
 use native.Mathlib.Nat.{lt-of-le-of-lt, mod-eq-of-lt}
 use native.Mathlib.Omega.{arith}
 use lib.Dec.{eqb}
-use lib.Count.{trailingZeros}
 use lib.Bits.{bitAnd, and-le-l}
 use borrow.Author.Tests.{eqb-true, eq-eqb, lt-ltb}
 use Rattle.squares.specs.Tests.{_and_, _or_}
-use Rattle.squares.specs.Squares.{has, setOf, size, someSquare, united, Least, LeastOr64}
-use Rattle.squares.specs.Members.{firstOf}
+use Rattle.squares.specs.Squares.{has, setOf, size, someSquare, united}
+use Rattle.squares.specs.Members.{lowestOf, firstOf}
 use Rattle.geometry.specs.declared.Color.{Color}
 use Rattle.geometry.specs.declared.Color.the-variants.{White, Black}
 use Rattle.geometry.specs.Colors.{opp}
@@ -23,17 +22,17 @@ use Rattle.laws.specs.Attacks.{attacks, attacksFrom, attacked, attackersOf, che
 use Rattle.laws.specs.Souls.{number}
 use Rattle.laws.specs.Acceptance.{kingsOk, quiet}
 use Rattle.laws.specs.Boards.{kindSet, colorSet, menAt, Clean}
-use Rattle.men.specs.Standing.{menOf}
-use Rattle.attacks.specs.Meeting.{metOf}
-use Rattle.pins.specs.Kings.{TheKing, snipersOf}
+use Rattle.men.specs.inner.Standing.{menOf}
+use Rattle.attacks.specs.inner.Meeting.{metOf}
+use Rattle.pins.specs.inner.Kings.{TheKing, snipersOf}
 use Rattle.squares.proofs.Testing.{both, left, right, bool-ext, agree, agree-eq, and-true}
 use Rattle.squares.proofs.Digits.{has-and, has-zero}
 use Rattle.squares.proofs.Comprehension.{is-upTo, upTo-lt, upTo-cong, has-setOf, has-not}
 use Rattle.squares.proofs.Every.{all-of, any-of, any-at, any-cong, not-all}
 use Rattle.squares.proofs.Counting.{count-empty}
 use Rattle.squares.proofs.Singles.{one-at}
-use Rattle.squares.proofs.LeastMember.{least-or-64}
-use Rattle.squares.proofs.Members.{first-is}
+use Rattle.squares.proofs.LeastMember.{Least}
+use Rattle.squares.proofs.Members.{least-of}
 use Rattle.geometry.proofs.Turned.{straight-sym, diagonal-sym}
 use Rattle.laws.proofs.Cases.{every, everyMan, by-cases, by-men, by-colors}
 use Rattle.laws.proofs.ManSets.{has-kind, kind-lt}
@@ -57,27 +56,22 @@ some-king s e = go s refl
         positive : (y : ℕ) → (y ≡ 0 → ⊥) → 0 < y
         positive y f = omega arith
 
-pub the-king : (m : Men) (c : Color) (q : ℕ) → kingsOk m ≡ true → LeastOr64 (menOf m c King) q → TheKing m c q
+pub the-king : (m : Men) (c : Color) (q : ℕ) → kingsOk m ≡ true → q ≡ lowestOf (menOf m c King) → TheKing m c q
 the-king m c q ok l = record { here = low .0; only = λ a h. sym (has-menOf m c King a h) ∙ one-at (menOf m c King) q (menOf-lt m c King) one (low .1 .member) a }
   where
     one : size (menOf m c King) ≡ 1
     one = size-menOf m c King ∙ one-king m ok c
 
     low : (q < 64) × Least (menOf m c King) q
-    low = l .some (some-king (menOf m c King) one)
+    low = least-of (menOf-lt m c King) l .some (some-king (menOf m c King) one)
 
 -- `to_square` gives its square
 pub first-king : (m : Men) (c : Color) → kingsOk m ≡ true → TheKing m c (firstOf (menOf m c King))
-first-king m c ok = subst (λ (q : ℕ). TheKing m c q) (sym (mod-eq-of-lt (the .here)) ∙ first-is (menOf m c King) lowest least) the
+unfolding firstOf
+first-king m c ok = subst (λ (q : ℕ). TheKing m c q) (sym (mod-eq-of-lt (the .here))) the
   where
-    lowest : ℕ
-    lowest = trailingZeros 64 (menOf m c King)
-
-    least : LeastOr64 (menOf m c King) lowest
-    least = least-or-64 (menOf m c King) (menOf-lt m c King)
-
-    the : TheKing m c lowest
-    the = the-king m c lowest ok least
+    the : TheKing m c (lowestOf (menOf m c King))
+    the = the-king m c (lowestOf (menOf m c King)) ok refl
 
 at-one : (q : ℕ) (f : ℕ → Bool) → q < 64 → someSquare (λ a. eqb a q and f a) ≡ f q
 at-one q f h = bool-ext (someSquare (λ a. eqb a q and f a)) (f q) to (λ e. any-of 64 (λ a. eqb a q and f a) q h (both (eq-eqb q q refl) e))

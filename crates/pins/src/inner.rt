@@ -9,7 +9,7 @@ ghost use Rattle.geometry.specs.Lines.{IsBetween};
 ghost use Rattle.laws.specs.Attacks.{checkersOf, alone, pinsOf};
 ghost use Rattle.laws.specs.Acceptance.{kingsOk, quiet};
 ghost use Rattle.laws.specs.Boards.{menAt, Clean};
-ghost use Rattle.pins.specs.Kings.{TheKing, snipersOf};
+ghost use Rattle.pins.specs.inner.Kings.{TheKing, snipersOf};
 
 pub fn king_square(pieces: [u64; 6], colors: [u64; 2], color: Color) -> u8
     requires { ⌜ Clean pieces colors × (kingsOk (menAt pieces colors) ≡ true) ⌝ }

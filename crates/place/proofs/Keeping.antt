@@ -16,7 +16,7 @@ use Rattle.laws.specs.declared.EnPassantFlag.the-variants.{Any, Some, None}
 use Rattle.laws.specs.Men.{Men}
 use Rattle.laws.specs.Acceptance.{stateOk}
 use Rattle.laws.specs.Boards.{Shaped}
-use Rattle.accept.specs.Said.{firstFailing}
+use Rattle.refusal.specs.Said.{firstFailing}
 use Rattle.board.specs.declared.RetractableBoard.{RetractableBoard}
 use Rattle.board.specs.Gate.{menOn, posOn, toLaws, boardTests}
 use Rattle.place.specs.Words.{colorWord, colorRead, rightsWord, rightsRead, stateWord, stateRead, wordsOf, boardRead}

@@ -6,21 +6,22 @@ use Rattle.geometry.specs.declared.Color.the-variants.{White, Black}
 use Rattle.laws.specs.declared.CastleRights.{CastleRights}
 use Rattle.laws.specs.declared.CastleRights.the-variants.{NoRights, KingSide, QueenSide, Both}
 use Rattle.laws.specs.declared.ChessRetraction.{ChessRetraction}
-use Rattle.laws.specs.Positions.{Pos, short, long, Rights, holds, rightsOf, rightsFor}
+use Rattle.laws.specs.Positions.{Pos, Rights, holds, rightsOf, rightsFor}
+use Rattle.laws.specs.declared.Side.the-variants.{Short as short, Long as long}
 use Rattle.laws.specs.Acceptance.{rightsOk}
 use Rattle.laws.specs.Moves.{replayed}
 use Rattle.laws.specs.Unmaking.{unmade}
-use Rattle.laws.specs.Boards.{kindSets, colorSets, Clean}
-use Rattle.accept.specs.declared.Verdict.the-variants.{Accepted}
-use Rattle.placing.specs.declared.Position.{Position}
-use Rattle.placing.specs.Placed.{menIn, posAt, positionOf}
+use Rattle.laws.specs.Boards.{kindSets, colorSets, Clean, menIn, posAt}
+use Rattle.refusal.specs.declared.Verdict.the-variants.{Accepted}
+use Rattle.laws.specs.declared.Position.{Position}
+use Rattle.position.specs.Answers.{positionOf, answered}
 use Rattle.moves.specs.Stepping.{possibleFor}
-use Rattle.unmake.specs.declared.Unmade.{Unmade}
-use Rattle.unmake.specs.Retracted.{answered, unmadeTo}
+use Rattle.position.specs.declared.Positioned.{Positioned}
+use Rattle.unmake.specs.Retracted.{unmadeTo}
 use Rattle.replay.specs.Replayed.{replayedFor, replayTo}
 use Rattle.laws.proofs.Retracting.{canRetract, kindToday}
 use Rattle.laws.proofs.Replays.{Replays, replay-unmake}
-use Rattle.placing.proofs.Composing.{position-shown, position-clean}
+use Rattle.position.proofs.Composing.{position-shown, position-clean}
 use Rattle.unmake.proofs.Returned.{accepted-can, answer-is, unmade-shown}
 use Rattle.replay.proofs.Forwards.{goes-of, later-on}
 
@@ -46,7 +47,7 @@ field-back QueenSide = refl
 field-back Both = refl
 
 -- an answer that gives back the arrays, the turn and the rights of p
-pub record Returns (p : Position) (z : Unmade) : Type 0 where
+pub record Returns (p : Position) (z : Positioned) : Type 0 where
   pub verdict-back : z .verdict ≡ Accepted
   pub pieces-back : z .position .pieces ≡ p .pieces
   pub colors-back : z .position .colors ≡ p .colors
@@ -65,17 +66,17 @@ module _ (p : Position) (r : ChessRetraction) (ok : Clean (p .pieces) (p .colors
   again : replayTo (posAt (unmadeTo (posAt p) r .position)) r (kindToday (posAt p) r) ≡ answered (replayedFor (unmade (posAt p) r) r (kindToday (posAt p) r))
   unfolding possibleFor
   again =
-      ap (λ (z : Unmade). replayTo (posAt (z .position)) r (kindToday (posAt p) r)) (answer-is (posAt p) r can)
+      ap (λ (z : Positioned). replayTo (posAt (z .position)) r (kindToday (posAt p) r)) (answer-is (posAt p) r can)
       ∙ ap (λ (q : Pos). replayTo q r (kindToday (posAt p) r)) (unmade-shown p r can)
       ∙ answer-forward (unmade (posAt p) r) r (kindToday (posAt p) r) (back .possible-again)
 
   pub unmake-replay : Returns p (replayTo (posAt (unmadeTo (posAt p) r .position)) r (kindToday (posAt p) r))
   unfolding replayedFor positionOf
   unmake-replay = record {
-    verdict-back = ap (λ (z : Unmade). z .verdict) again;
-    pieces-back = ap (λ (z : Unmade). z .position .pieces) again ∙ ap kindSets (back .men-back) ∙ sym (ok .kinds);
-    colors-back = ap (λ (z : Unmade). z .position .colors) again ∙ ap colorSets (back .men-back) ∙ sym (ok .colours);
-    turn-back = ap (λ (z : Unmade). z .position .turn) again ∙ back .turn-back;
-    white-back = ap (λ (z : Unmade). z .position .white) again ∙ ap (λ (ρ : Rights). rightsFor (ρ White short) (ρ White long)) (back .rights-back) ∙ field-back (p .white);
-    black-back = ap (λ (z : Unmade). z .position .black) again ∙ ap (λ (ρ : Rights). rightsFor (ρ Black short) (ρ Black long)) (back .rights-back) ∙ field-back (p .black);
+    verdict-back = ap (λ (z : Positioned). z .verdict) again;
+    pieces-back = ap (λ (z : Positioned). z .position .pieces) again ∙ ap kindSets (back .men-back) ∙ sym (ok .kinds);
+    colors-back = ap (λ (z : Positioned). z .position .colors) again ∙ ap colorSets (back .men-back) ∙ sym (ok .colours);
+    turn-back = ap (λ (z : Positioned). z .position .turn) again ∙ back .turn-back;
+    white-back = ap (λ (z : Positioned). z .position .white) again ∙ ap (λ (ρ : Rights). rightsFor (ρ White short) (ρ White long)) (back .rights-back) ∙ field-back (p .white);
+    black-back = ap (λ (z : Positioned). z .position .black) again ∙ ap (λ (ρ : Rights). rightsFor (ρ Black short) (ρ Black long)) (back .rights-back) ∙ field-back (p .black);
   }

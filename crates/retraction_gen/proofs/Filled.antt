@@ -5,12 +5,13 @@ use mathlib.Core.List.{List}
 use lib.Dec.{ltb}
 use lib.ListN.{length}
 use borrow.Author.Tests.{ltb-true, ltb-false, le-leb, lt-leb}
-use Rattle.accept.specs.declared.Refusal.the-variants.{Full}
-use Rattle.accept.specs.Verdicts.{numberOf}
-use Rattle.accept.specs.Said.{firstFailing}
-use Rattle.roll.specs.declared.SourceAndTargets.{SourceAndTargets}
-use Rattle.roll.specs.declared.RetractionList.{RetractionList}
-use Rattle.roll.specs.Roll.{holding, fullList, answerOf}
+use Rattle.refusal.specs.declared.Refusal.the-variants.{Full}
+use Rattle.refusal.specs.Refusals.{numberOf}
+use Rattle.refusal.specs.Said.{firstFailing}
+use Rattle.retraction_list.specs.declared.SourceAndTargets.{SourceAndTargets}
+use Rattle.retraction_list.specs.declared.RetractionList.{RetractionList}
+use Rattle.retraction_list.specs.Entries.{holding, fullList}
+use Rattle.retraction_list.specs.inner.Pushing.{answerOf}
 use Rattle.retraction_gen.specs.Making.{fullTest}
 
 flag-of : (es : List SourceAndTargets) (t : Bool) → cond t fullList (holding es) .full ≡ t

@@ -1,24 +1,24 @@
 -- A cursor behind the gate: the gate's refusal, or what is made of an accepted board; and any two answers agree.
-use mathlib.Core.Path.{_≡_, refl, sym, ap, _∙_}
+use mathlib.Core.Path.{_≡_, sym, ap, _∙_}
 use mathlib.Core.List.{List}
 use Prim.Native.Nat.{ℕ, _≤_}
 use lib.Dec.{leb}
 use lib.ListN.{length}
 use borrow.Author.Tests.{leb-true}
-use Rattle.accept.specs.declared.Refusal.{Refusal}
-use Rattle.accept.specs.declared.Refusal.the-variants.{Full}
-use Rattle.accept.specs.declared.Verdict.{Verdict}
-use Rattle.accept.specs.declared.Verdict.the-variants.{Accepted, Refused}
-use Rattle.accept.specs.Verdicts.{verdictNumber}
-use Rattle.accept.specs.Said.{Test, firstFailing}
+use Rattle.refusal.specs.declared.Refusal.{Refusal}
+use Rattle.refusal.specs.declared.Refusal.the-variants.{Full}
+use Rattle.refusal.specs.declared.Verdict.{Verdict}
+use Rattle.refusal.specs.declared.Verdict.the-variants.{Accepted, Refused}
+use Rattle.refusal.specs.Refusals.{verdictNumber}
+use Rattle.refusal.specs.Said.{Test, firstFailing}
 use Rattle.board.specs.declared.RetractableBoard.{RetractableBoard}
 use Rattle.board.specs.Gate.{gateOf, boardTests}
 use Rattle.retraction_gen.specs.declared.RetractionGen.{RetractionGen}
 use Rattle.retraction_gen.specs.declared.Made.{Made}
 use Rattle.retraction_gen.specs.declared.Masks.{Masks}
 use Rattle.retraction_gen.specs.Making.{listOn, masksOn, noMasks, fullTest, listTests, cursorOn, noCursor, Makes, Masked}
-use Rattle.accept.proofs.Saying.{verdict-one}
-use Rattle.accept.proofs.Tested.{beside-none, beside-refused, pass-on, stop-on, none-fails, last-passes}
+use Rattle.refusal.proofs.Saying.{verdict-one}
+use Rattle.refusal.proofs.Tested.{beside-none, beside-refused, pass-on, stop-on, none-fails, last-passes}
 use Rattle.board.proofs.Numbers.{gate-refuses, gate-passes, passed-gate}
 
 module _ (b : RetractableBoard) (v : Verdict) (e : v ≡ gateOf b) where
@@ -38,14 +38,11 @@ module _ (b : RetractableBoard) (v : Verdict) (e : v ≡ gateOf b) where
   masked-on r h k =
       let n = gate-passes b v e h in record { number = ap verdictNumber (k .0) ∙ sym n; masks = k .1 ∙ beside-none (boardTests b) (masksOn b) noMasks n }
 
--- the tests of the list: none fails, and those behind an accepted board
+-- none of the list's tests fails
 pub list-passed : (b : RetractableBoard) → firstFailing (listTests b) ≡ 0 → (gateOf b ≡ Accepted) × (length (listOn b) ≤ 47)
 list-passed b h =
     let n = none-fails (boardTests b) (fullTest (listOn b)) h in
     (passed-gate b (n .0), leb-true (length (listOn b)) 47 (last-passes (leb (length (listOn b)) 47) Full (n .1)))
-
-pub list-on : (b : RetractableBoard) → gateOf b ≡ Accepted → firstFailing (fullTest (listOn b)) ≡ firstFailing (listTests b)
-list-on b h = pass-on (boardTests b) (fullTest (listOn b)) (gate-passes b (gateOf b) refl h)
 
 -- any two answers agree
 pub makes-one : {ts : List Test} {g : RetractionGen} (r q : Made) → Makes ts g r → Makes ts g q → r ≡ q

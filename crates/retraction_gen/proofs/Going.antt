@@ -10,15 +10,15 @@ use lib.Dec.{leb, ltb}
 use lib.ListN.{length, getD, set, drop}
 use borrow.Author.Tests.{ltb-true, ltb-false, leb-false}
 use Rattle.squares.specs.Squares.{setOf, besides}
-use Rattle.squares.specs.Members.{members, headOr}
+use Rattle.squares.specs.Members.{members, headOr, lowestOf}
 use Rattle.laws.specs.declared.ChessRetraction.{ChessRetraction}
-use Rattle.roll.specs.declared.SourceAndTargets.{SourceAndTargets}
-use Rattle.roll.specs.Roll.{noEntry}
+use Rattle.retraction_list.specs.declared.SourceAndTargets.{SourceAndTargets}
+use Rattle.retraction_list.specs.Entries.{noEntry}
 use Rattle.retraction_gen.specs.declared.RetractionGen.{RetractionGen}
 use Rattle.retraction_gen.specs.declared.Turn.{Turn}
 use Rattle.retraction_gen.specs.declared.Turn.the-variants.{Again, Found, Over}
 use Rattle.retraction_gen.specs.declared.Turned.{Turned}
-use Rattle.retraction_gen.specs.Cursors.{withIndex, withUncaptured, turned, retractionSaid, endSaid, Answered, back, entryAt, lowestOf, lessened, spent, passing, barred, passedTo, uncapturedTo, turnIn, onEntry, turnOf, weigh, fuel, answered, runOf, stepOf}
+use Rattle.retraction_gen.specs.Cursors.{withIndex, withUncaptured, turned, retractionSaid, endSaid, Answered, back, entryAt, lessened, spent, isUnEnPassant, barred, unEnPassantTo, uncapturedTo, turnIn, onEntry, turnOf, weigh, fuel, answered, runOf, stepOf}
 use Rattle.squares.proofs.Testing.{left, right}
 use Rattle.squares.proofs.Members.{members-none}
 use Rattle.retraction_gen.proofs.Lowest.{members-lowest}
@@ -83,8 +83,8 @@ in-ways g r r′ false false false h k e = kind-less g (leb-false 6 (g .uncaptur
 in-less : (g : RetractionGen) → lowestOf (entryAt g .targets) < 64 → Less g (turnIn g (entryAt g))
 unfolding turnIn
 in-less g k e =
-    in-ways g (passedTo (entryAt g) (lowestOf (entryAt g .targets))) (uncapturedTo (entryAt g) (lowestOf (entryAt g .targets)) (g .uncaptured))
-    (passing (entryAt g .kind)) (leb 6 (g .uncaptured))
+    in-ways g (unEnPassantTo (entryAt g) (lowestOf (entryAt g .targets))) (uncapturedTo (entryAt g) (lowestOf (entryAt g .targets)) (g .uncaptured))
+    (isUnEnPassant (entryAt g .kind)) (leb 6 (g .uncaptured))
     (barred (getD (g .masks) (g .uncaptured) 0) (entryAt g .source) (entryAt g .kind) (g .uncaptured))
     refl k e
 

@@ -5,6 +5,5 @@ pub mod Going
 pub mod Stepping
 pub mod Sources
 pub mod Remaining
-pub mod Sourced
 pub mod Whole
 pub mod Numbered

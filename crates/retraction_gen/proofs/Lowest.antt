@@ -6,24 +6,11 @@ use mathlib.Core.List.{List, [], _∷_, _++_}
 use Prim.Native.Nat.{ℕ, zero, suc, _<_, _≤_}
 use native.Mathlib.Nat.{eq-or-lt-of-le, le-refl, le-suc, le-trans, le-of-suc-le-suc, not-suc-le-zero}
 use native.Mathlib.Omega.{arith}
-use Rattle.squares.specs.Squares.{has, setOf, besides, LeastOr64}
-use Rattle.squares.specs.Members.{listTo, members, headOr}
-use Rattle.retraction_gen.specs.Cursors.{lowestOf}
+use Rattle.squares.specs.Squares.{has, setOf, besides}
+use Rattle.squares.specs.Members.{listTo, members, headOr, lowestOf}
 use Rattle.squares.proofs.Testing.{order}
 use Rattle.squares.proofs.Digits.{has-zero}
-use Rattle.squares.proofs.Members.{members-none, members-next}
-
-pub lowest-is : (s r : ℕ) → LeastOr64 s r → r ≡ lowestOf s
-unfolding lowestOf
-lowest-is s r m = ⊎-elim some none (order 0 s)
-  where
-    some : 0 < s → r ≡ headOr 64 (members s)
-    some p = sym (ap (headOr 64) (members-next s r p m))
-
-    none : s ≤ 0 → r ≡ headOr 64 (members s)
-    none p =
-        let e : s ≡ 0 = omega arith in
-        m .none e ∙ sym (ap (λ (x : ℕ). headOr 64 (members x)) e ∙ ap (headOr 64) members-none)
+use Rattle.squares.proofs.Members.{members-next}
 
 record First (n : ℕ) (p : ℕ → Bool) : Type 0 where
   at : ℕ

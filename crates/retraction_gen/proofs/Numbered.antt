@@ -7,14 +7,14 @@ use native.Mathlib.Omega.{arith}
 use lib.Dec.{eqb, leb}
 use lib.ListN.{length}
 use Rattle.squares.specs.Tests.{_and_}
-use Rattle.accept.specs.declared.Refusal.the-variants.{Full}
-use Rattle.accept.specs.Verdicts.{verdictNumber}
-use Rattle.accept.specs.Said.{_else_, firstFailing, says}
+use Rattle.refusal.specs.declared.Refusal.the-variants.{Full}
+use Rattle.refusal.specs.Refusals.{verdictNumber}
+use Rattle.refusal.specs.Said.{_else_, firstFailing, says}
 use Rattle.board.specs.declared.RetractableBoard.{RetractableBoard}
 use Rattle.board.specs.Gate.{boardTests}
 use Rattle.retraction_gen.specs.declared.Made.{Made}
 use Rattle.retraction_gen.specs.Making.{listOn, fullTest, listTests, cursorOn, Makes}
-use Rattle.accept.proofs.Tested.{number-behind}
+use Rattle.refusal.proofs.Tested.{number-behind}
 use Rattle.board.proofs.Numbers.{above-seven}
 
 full-by : (fits : Bool) → eqb (firstFailing ((fits else Full) ∷ [])) 8 ≡ not fits

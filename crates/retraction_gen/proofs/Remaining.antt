@@ -10,23 +10,23 @@ use lib.Dec.{leb, ltb}
 use lib.ListN.{getD, set}
 use borrow.Author.Tests.{ltb-true, ltb-false, leb-true, leb-false}
 use Rattle.squares.specs.Tests.{_and_}
-use Rattle.squares.specs.Members.{members, concat}
+use Rattle.squares.specs.Members.{members, concat, lowestOf, numbersFrom}
 use Rattle.laws.specs.declared.ChessRetraction.{ChessRetraction}
-use Rattle.roll.specs.declared.SourceAndTargets.{SourceAndTargets}
-use Rattle.roll.specs.Roll.{noEntry}
+use Rattle.retraction_list.specs.declared.SourceAndTargets.{SourceAndTargets}
+use Rattle.retraction_list.specs.Entries.{noEntry}
 use Rattle.retraction_gen.specs.declared.RetractionGen.{RetractionGen}
 use Rattle.retraction_gen.specs.declared.Turn.{Turn}
 use Rattle.retraction_gen.specs.declared.Turn.the-variants.{Again, Found, Over}
 use Rattle.retraction_gen.specs.declared.Turned.{Turned}
-use Rattle.retraction_gen.specs.Cursors.{withIndex, withUncaptured, turned, entryAt, lowestOf, lessened, spent, passing, barred, passedTo, uncapturedTo, turnIn, onEntry, turnOf}
-use Rattle.retraction_gen.specs.Rest.{listed, later, restIn, windowOf, restOf}
-use Rattle.retraction_gen.specs.Sequence.{numbersFrom, allowed, sequenceOf}
+use Rattle.retraction_gen.specs.Cursors.{withIndex, withUncaptured, turned, entryAt, lessened, spent, isUnEnPassant, barred, unEnPassantTo, uncapturedTo, turnIn, onEntry, turnOf}
+use Rattle.retraction_gen.specs.inner.Rest.{listed, later, restIn, windowOf, restOf}
+use Rattle.retraction_gen.specs.Sequence.{allowed, sequenceOf}
 use Rattle.retraction_gen.proofs.Lowest.{members-lowest, members-empty}
 use Rattle.retraction_gen.proofs.Going.{on-len, lowest-none}
 
 -- at the start it is the sequence
 at-first : (once : ℕ → ChessRetraction) (each : ℕ → ℕ → ChessRetraction) (ok : ℕ → Bool) (p : Bool) (ts : List ℕ)
-    → listed once each ok p 0 ts ≡ concat (λ t. cond p (once t ∷ []) (map (each t) (numbersFrom 6 0 ok))) ts
+    → listed once each ok p 0 ts ≡ concat (λ t. cond p (once t ∷ []) (map (each t) (numbersFrom ok 0 6))) ts
 unfolding listed concat
 at-first once each ok true ts = refl
 at-first once each ok false [] = refl
@@ -42,8 +42,8 @@ pub rest-sequence : (ms : List ℕ) (es : List SourceAndTargets) → restIn ms 0
 unfolding restIn sequenceOf
 rest-sequence ms [] = refl
 rest-sequence ms (e ∷ es) =
-    ap₂ _++_ (at-first (passedTo e) (uncapturedTo e) (allowed ms e) (passing (e .kind)) (members (e .targets)))
-    (ap (λ (u : ℕ). restIn ms u es) (stays-first (passing (e .kind)) (members (e .targets))) ∙ rest-sequence ms es)
+    ap₂ _++_ (at-first (unEnPassantTo e) (uncapturedTo e) (allowed ms e) (isUnEnPassant (e .kind)) (members (e .targets)))
+    (ap (λ (u : ℕ). restIn ms u es) (stays-first (isUnEnPassant (e .kind)) (members (e .targets))) ∙ rest-sequence ms es)
 
 -- stores beside the window
 get-other : (es : List SourceAndTargets) (i j : ℕ) (x : SourceAndTargets) → i < j → getD (set es i x) j noEntry ≡ getD es j noEntry
@@ -86,31 +86,34 @@ no-later false u = refl
 
 others-from : (once : ℕ → ChessRetraction) (each : ℕ → ℕ → ChessRetraction) (ok : ℕ → Bool) (u t : ℕ) (ts : List ℕ) → 6 ≤ u
     → listed once each ok false u (t ∷ ts) ≡ listed once each ok false 0 ts
-unfolding listed numbersFrom
+unfolding listed
 others-from once each ok u t ts h =
     let e : 6 - u ≡ 0 = omega arith in
-    ap (λ (n : ℕ). map (each t) (numbersFrom n u ok) ++ concat (λ k. map (each k) (numbersFrom 6 0 ok)) ts) e ∙ sym (at-first once each ok false ts)
+    ap (λ (n : ℕ). map (each t) (numbersFrom ok u n) ++ concat (λ k. map (each k) (numbersFrom ok 0 6)) ts) e ∙ sym (at-first once each ok false ts)
 
-number-at : (ok : ℕ → Bool) (u : ℕ) → u < 6 → numbersFrom (6 - u) u ok ≡ cond (ok u) (u ∷ numbersFrom (6 - (u + 1)) (u + 1) ok) (numbersFrom (6 - (u + 1)) (u + 1) ok)
-unfolding numbersFrom
+number-at : (ok : ℕ → Bool) (u : ℕ) → u < 6 → numbersFrom ok u (6 - u) ≡ cond (ok u) (u ∷ numbersFrom ok (u + 1) (6 - (u + 1))) (numbersFrom ok (u + 1) (6 - (u + 1)))
 number-at ok u h =
     let e : 6 - u ≡ suc (6 - (u + 1)) = omega arith in
-    ap (λ (n : ℕ). numbersFrom n u ok) e
-    ∙ ap (λ (v : ℕ). cond (ok u) (u ∷ numbersFrom (6 - (u + 1)) v ok) (numbersFrom (6 - (u + 1)) v ok)) (sym (add-one u))
+    ap (λ (n : ℕ). numbersFrom ok u n) e ∙ at (ok u)
+  where
+    at : (t : Bool) → elim t as (λ _. List ℕ) [ true ↦ u ∷ numbersFrom ok (suc u) (6 - (u + 1)) | false ↦ numbersFrom ok (suc u) (6 - (u + 1)) ]
+        ≡ cond t (u ∷ numbersFrom ok (u + 1) (6 - (u + 1))) (numbersFrom ok (u + 1) (6 - (u + 1)))
+    at true = ap (λ (v : ℕ). u ∷ numbersFrom ok v (6 - (u + 1))) (sym (add-one u))
+    at false = ap (λ (v : ℕ). numbersFrom ok v (6 - (u + 1))) (sym (add-one u))
 
 barred-from : (once : ℕ → ChessRetraction) (each : ℕ → ℕ → ChessRetraction) (ok : ℕ → Bool) (u t : ℕ) (ts : List ℕ) → u < 6 → ok u ≡ false
     → listed once each ok false u (t ∷ ts) ≡ listed once each ok false (u + 1) (t ∷ ts)
 unfolding listed
 barred-from once each ok u t ts h b =
-    ap (λ (l : List ℕ). map (each t) l ++ concat (λ k. map (each k) (numbersFrom 6 0 ok)) ts)
-    (number-at ok u h ∙ ap (λ (x : Bool). cond x (u ∷ numbersFrom (6 - (u + 1)) (u + 1) ok) (numbersFrom (6 - (u + 1)) (u + 1) ok)) b)
+    ap (λ (l : List ℕ). map (each t) l ++ concat (λ k. map (each k) (numbersFrom ok 0 6)) ts)
+    (number-at ok u h ∙ ap (λ (x : Bool). cond x (u ∷ numbersFrom ok (u + 1) (6 - (u + 1))) (numbersFrom ok (u + 1) (6 - (u + 1)))) b)
 
 found-from : (once : ℕ → ChessRetraction) (each : ℕ → ℕ → ChessRetraction) (ok : ℕ → Bool) (u t : ℕ) (ts : List ℕ) → u < 6 → ok u ≡ true
     → listed once each ok false u (t ∷ ts) ≡ each t u ∷ listed once each ok false (u + 1) (t ∷ ts)
 unfolding listed
 found-from once each ok u t ts h b =
-    ap (λ (l : List ℕ). map (each t) l ++ concat (λ k. map (each k) (numbersFrom 6 0 ok)) ts)
-    (number-at ok u h ∙ ap (λ (x : Bool). cond x (u ∷ numbersFrom (6 - (u + 1)) (u + 1) ok) (numbersFrom (6 - (u + 1)) (u + 1) ok)) b)
+    ap (λ (l : List ℕ). map (each t) l ++ concat (λ k. map (each k) (numbersFrom ok 0 6)) ts)
+    (number-at ok u h ∙ ap (λ (x : Bool). cond x (u ∷ numbersFrom ok (u + 1) (6 - (u + 1))) (numbersFrom ok (u + 1) (6 - (u + 1)))) b)
 
 -- the rest of a cursor that is on an entry
 module _ (g : RetractionGen) (on : onEntry g ≡ true) where
@@ -119,14 +122,14 @@ module _ (g : RetractionGen) (on : onEntry g ≡ true) where
 
   -- the part of the entry, with its uncaptured and targets, and what comes after
   abbrev partOf : Bool → ℕ → List ℕ → List ChessRetraction
-  partOf p u ts = listed (passedTo (entryAt g)) (uncapturedTo (entryAt g)) (allowed (g .masks) (entryAt g)) p u ts ++ restIn (g .masks) (later p u ts) tail
+  partOf p u ts = listed (unEnPassantTo (entryAt g)) (uncapturedTo (entryAt g)) (allowed (g .masks) (entryAt g)) p u ts ++ restIn (g .masks) (later p u ts) tail
 
-  rest-on : (u : ℕ) → restOf (withUncaptured g u) ≡ partOf (passing (entryAt g .kind)) u (members (entryAt g .targets))
+  rest-on : (u : ℕ) → restOf (withUncaptured g u) ≡ partOf (isUnEnPassant (entryAt g .kind)) u (members (entryAt g .targets))
   unfolding restOf restIn tail
   rest-on u = ap (restIn (g .masks) u) (window-at (g .entries) (g .len) (g .index) (on-len g on))
 
   rest-spent : (u : ℕ) → lowestOf (entryAt g .targets) < 64
-      → restOf (withUncaptured (spent g) u) ≡ partOf (passing (entryAt g .kind)) u (members (lessened (entryAt g) .targets))
+      → restOf (withUncaptured (spent g) u) ≡ partOf (isUnEnPassant (entryAt g .kind)) u (members (lessened (entryAt g) .targets))
   unfolding restOf restIn spent tail
   rest-spent u h =
       ap (restIn (g .masks) u)
@@ -139,44 +142,44 @@ module _ (g : RetractionGen) (on : onEntry g ≡ true) where
   unfolding restOf tail
   rest-skip h =
       rest-on (g .uncaptured)
-      ∙ ap (partOf (passing (entryAt g .kind)) (g .uncaptured)) (members-empty (entryAt g .targets) h)
-      ∙ ap₂ _++_ (no-target (passedTo (entryAt g)) (uncapturedTo (entryAt g)) (allowed (g .masks) (entryAt g)) (passing (entryAt g .kind)) (g .uncaptured))
-      (ap (λ (u : ℕ). restIn (g .masks) u tail) (no-later (passing (entryAt g .kind)) (g .uncaptured)))
+      ∙ ap (partOf (isUnEnPassant (entryAt g .kind)) (g .uncaptured)) (members-empty (entryAt g .targets) h)
+      ∙ ap₂ _++_ (no-target (unEnPassantTo (entryAt g)) (uncapturedTo (entryAt g)) (allowed (g .masks) (entryAt g)) (isUnEnPassant (entryAt g .kind)) (g .uncaptured))
+      (ap (λ (u : ℕ). restIn (g .masks) u tail) (no-later (isUnEnPassant (entryAt g .kind)) (g .uncaptured)))
       ∙ ap (λ (i : ℕ). restIn (g .masks) (g .uncaptured) (windowOf (g .len - i) i (g .entries))) (sym (add-one (g .index)))
 
   -- the turns at a target
   abbrev Gives : Turned → Type 0
   Gives t = restOf g ≡ found (t .turn) (restOf (t .cursor))
 
-  in-ways : (p u b : Bool) → passing (entryAt g .kind) ≡ p → leb 6 (g .uncaptured) ≡ u
+  in-ways : (p u b : Bool) → isUnEnPassant (entryAt g .kind) ≡ p → leb 6 (g .uncaptured) ≡ u
       → barred (getD (g .masks) (g .uncaptured) 0) (entryAt g .source) (entryAt g .kind) (g .uncaptured) ≡ b → lowestOf (entryAt g .targets) < 64
       → Gives
-      (cond p (turned (spent g) (Found (passedTo (entryAt g) (lowestOf (entryAt g .targets)))))
+      (cond p (turned (spent g) (Found (unEnPassantTo (entryAt g) (lowestOf (entryAt g .targets)))))
       (cond u (turned (withUncaptured (spent g) 0) Again)
       (cond b (turned (withUncaptured g (g .uncaptured + 1)) Again)
       (turned (withUncaptured g (g .uncaptured + 1)) (Found (uncapturedTo (entryAt g) (lowestOf (entryAt g .targets)) (g .uncaptured)))))))
   unfolding listed later concat spent
   in-ways true u b pe ue be h =
       rest-on (g .uncaptured) ∙ ap₂ (λ (p : Bool) (ts : List ℕ). partOf p (g .uncaptured) ts) pe (members-lowest (entryAt g .targets) h)
-      ∙ ap (λ (l : List ChessRetraction). passedTo (entryAt g) (lowestOf (entryAt g .targets)) ∷ l)
+      ∙ ap (λ (l : List ChessRetraction). unEnPassantTo (entryAt g) (lowestOf (entryAt g .targets)) ∷ l)
       (sym (rest-spent (g .uncaptured) h ∙ ap (λ (p : Bool). partOf p (g .uncaptured) (members (lessened (entryAt g) .targets))) pe))
   in-ways false true b pe ue be h =
       rest-on (g .uncaptured) ∙ ap₂ (λ (p : Bool) (ts : List ℕ). partOf p (g .uncaptured) ts) pe (members-lowest (entryAt g .targets) h)
       ∙ ap₂ (λ (l : List ChessRetraction) (v : ℕ). l ++ restIn (g .masks) v tail)
-      (others-from (passedTo (entryAt g)) (uncapturedTo (entryAt g)) (allowed (g .masks) (entryAt g)) (g .uncaptured) (lowestOf (entryAt g .targets))
+      (others-from (unEnPassantTo (entryAt g)) (uncapturedTo (entryAt g)) (allowed (g .masks) (entryAt g)) (g .uncaptured) (lowestOf (entryAt g .targets))
       (members (lessened (entryAt g) .targets)) (leb-true 6 (g .uncaptured) ue))
       (sym (stays-first false (members (lessened (entryAt g) .targets))))
       ∙ sym (rest-spent 0 h ∙ ap (λ (p : Bool). partOf p 0 (members (lessened (entryAt g) .targets))) pe)
   in-ways false false true pe ue be h =
       rest-on (g .uncaptured) ∙ ap₂ (λ (p : Bool) (ts : List ℕ). partOf p (g .uncaptured) ts) pe (members-lowest (entryAt g .targets) h)
       ∙ ap (λ (l : List ChessRetraction). l ++ restIn (g .masks) 0 tail)
-      (barred-from (passedTo (entryAt g)) (uncapturedTo (entryAt g)) (allowed (g .masks) (entryAt g)) (g .uncaptured) (lowestOf (entryAt g .targets))
+      (barred-from (unEnPassantTo (entryAt g)) (uncapturedTo (entryAt g)) (allowed (g .masks) (entryAt g)) (g .uncaptured) (lowestOf (entryAt g .targets))
       (members (lessened (entryAt g) .targets)) (leb-false 6 (g .uncaptured) ue) (ap not be))
       ∙ sym (rest-on (g .uncaptured + 1) ∙ ap₂ (λ (p : Bool) (ts : List ℕ). partOf p (g .uncaptured + 1) ts) pe (members-lowest (entryAt g .targets) h))
   in-ways false false false pe ue be h =
       rest-on (g .uncaptured) ∙ ap₂ (λ (p : Bool) (ts : List ℕ). partOf p (g .uncaptured) ts) pe (members-lowest (entryAt g .targets) h)
       ∙ ap (λ (l : List ChessRetraction). l ++ restIn (g .masks) 0 tail)
-      (found-from (passedTo (entryAt g)) (uncapturedTo (entryAt g)) (allowed (g .masks) (entryAt g)) (g .uncaptured) (lowestOf (entryAt g .targets))
+      (found-from (unEnPassantTo (entryAt g)) (uncapturedTo (entryAt g)) (allowed (g .masks) (entryAt g)) (g .uncaptured) (lowestOf (entryAt g .targets))
       (members (lessened (entryAt g) .targets)) (leb-false 6 (g .uncaptured) ue) (ap not be))
       ∙ ap (λ (l : List ChessRetraction). uncapturedTo (entryAt g) (lowestOf (entryAt g .targets)) (g .uncaptured) ∷ l)
       (sym (rest-on (g .uncaptured + 1) ∙ ap₂ (λ (p : Bool) (ts : List ℕ). partOf p (g .uncaptured + 1) ts) pe (members-lowest (entryAt g .targets) h)))
@@ -184,7 +187,7 @@ module _ (g : RetractionGen) (on : onEntry g ≡ true) where
   in-gives : lowestOf (entryAt g .targets) < 64 → Gives (turnIn g (entryAt g))
   unfolding turnIn
   in-gives h =
-      in-ways (passing (entryAt g .kind)) (leb 6 (g .uncaptured))
+      in-ways (isUnEnPassant (entryAt g .kind)) (leb 6 (g .uncaptured))
       (barred (getD (g .masks) (g .uncaptured) 0) (entryAt g .source) (entryAt g .kind) (g .uncaptured)) refl refl refl h
 
 -- at the end

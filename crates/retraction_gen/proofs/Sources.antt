@@ -1,4 +1,4 @@
--- The test of a cursor's sources, one entry at a time.
+-- The test of a cursor's sources, one entry at a time; the ported list passes it, whatever the board.
 use mathlib.Core.Path.{_≡_, refl, ap, _∙_}
 use mathlib.Core.Bool.{Bool, true, false}
 use mathlib.Core.List.{List, [], _∷_}
@@ -10,10 +10,14 @@ use lib.Dec.{ltb}
 use lib.ListN.{getD, take}
 use borrow.Author.Tests.{lt-ltb, le-ltb}
 use Rattle.squares.specs.Tests.{_and_}
-use Rattle.roll.specs.declared.SourceAndTargets.{SourceAndTargets}
-use Rattle.roll.specs.Roll.{noEntry}
-use Rattle.retraction_gen.specs.Cursors.{sound}
+use Rattle.retraction_list.specs.declared.SourceAndTargets.{SourceAndTargets}
+use Rattle.retraction_list.specs.Entries.{noEntry, sound}
+use Rattle.board.specs.declared.RetractableBoard.{RetractableBoard}
+use Rattle.view.specs.Views.{viewOf}
+use Rattle.retraction_gen.specs.Making.{viewOn, listOn}
 use Rattle.squares.proofs.Testing.{both, left, right, and-false}
+use Rattle.squares.proofs.Members.{first-lt}
+use Rattle.enumerate.proofs.Sources.{sources-are}
 
 more : (es : List SourceAndTargets) (i : ℕ) → sound (take i es) ≡ true → getD es i noEntry .source < 64 → sound (take (suc i) es) ≡ true
 unfolding sound
@@ -30,3 +34,7 @@ sound-bad [] i n h s = absurd (omega arith)
 sound-bad (e ∷ es) i zero h s = absurd (not-suc-le-zero h)
 sound-bad (e ∷ es) zero (suc n) h s = ap (λ (t : Bool). t and sound (take n es)) (le-ltb (e .source) 64 s)
 sound-bad (e ∷ es) (suc i) (suc n) h s = ap (λ (t : Bool). ltb (e .source) 64 and t) (sound-bad es i n (le-of-suc-le-suc h) s) ∙ and-false (ltb (e .source) 64)
+
+pub list-sound : (b : RetractableBoard) → sound (listOn b) ≡ true
+unfolding listOn viewOf
+list-sound b = sources-are (viewOn b) (first-lt _)

@@ -9,7 +9,7 @@ use Rattle.retraction_gen.specs.declared.Next.{Next}
 use Rattle.retraction_gen.specs.declared.Next.the-variants.{Retraction, End}
 use Rattle.retraction_gen.specs.declared.Stepped.{Stepped}
 use Rattle.retraction_gen.specs.Cursors.{retractionSaid, nextSays, Answered, back, nextOf, Steps}
-use Rattle.accept.proofs.Writing.{no-value}
+use Rattle.refusal.proofs.Writing.{no-value}
 
 pub steps : (g h : RetractionGen) (a : Next) → nextOf g ≡ back h (nextSays a) → Steps g (record { cursor = h; next = a })
 steps g h a e = record { cursor = sym (ap (λ (x : Answered). x .cursor) e); answer = sym (ap (λ (x : Answered). x .said) e) }

@@ -9,28 +9,29 @@ use lib.Dec.{leb, ltb, lit<}
 use lib.ListN.{length, getD, set, take, replicate}
 use borrow.Author.Tests.{leb-true, le-leb, ltb-false, ltb-true, leb-false}
 use Rattle.squares.specs.Tests.{_and_}
-use Rattle.accept.specs.declared.Verdict.the-variants.{Accepted}
-use Rattle.accept.specs.Verdicts.{verdictNumber}
-use Rattle.accept.specs.Said.{firstFailing}
+use Rattle.refusal.specs.declared.Verdict.the-variants.{Accepted}
+use Rattle.refusal.specs.Refusals.{verdictNumber}
+use Rattle.refusal.specs.Said.{firstFailing}
 use Rattle.board.specs.declared.RetractableBoard.{RetractableBoard}
 use Rattle.laws.specs.declared.ChessRetraction.{ChessRetraction}
 use Rattle.laws.specs.Retractions.{InRange}
-use Rattle.roll.specs.declared.SourceAndTargets.{SourceAndTargets}
-use Rattle.roll.specs.Roll.{noEntry, holding}
+use Rattle.retraction_list.specs.declared.SourceAndTargets.{SourceAndTargets}
+use Rattle.retraction_list.specs.Entries.{noEntry, holding, sound}
 use Rattle.retraction_gen.specs.declared.RetractionGen.{RetractionGen}
 use Rattle.retraction_gen.specs.declared.Made.{Made}
 use Rattle.retraction_gen.specs.declared.Turn.{Turn}
 use Rattle.retraction_gen.specs.declared.Turn.the-variants.{Again, Found, Over}
 use Rattle.retraction_gen.specs.Making.{listOn, masksOn, startOf, listTests, cursorOn, noCursor, Makes}
-use Rattle.retraction_gen.specs.Cursors.{withIndex, withUncaptured, turned, retractionSaid, endSaid, Answered, back, entryAt, lowestOf, lessened, spent, passing, barred, passedTo, uncapturedTo, turnIn, onEntry, turnOf, fuel, stepOf, sound, wellFormed, nextOf}
+use Rattle.retraction_gen.specs.Cursors.{withIndex, withUncaptured, turned, retractionSaid, endSaid, Answered, back, entryAt, lessened, spent, isUnEnPassant, barred, unEnPassantTo, uncapturedTo, turnIn, onEntry, turnOf, fuel, stepOf, wellFormed, nextOf}
+use Rattle.squares.specs.Members.{lowestOf}
 use Rattle.retraction_gen.specs.Sequence.{sequenceOf, sequenceOn, Yields}
-use Rattle.retraction_gen.specs.Rest.{restIn, windowOf, restOf}
+use Rattle.retraction_gen.specs.inner.Rest.{restIn, windowOf, restOf}
 use Rattle.retraction_gen.proofs.Going.{on-len, again-less, turn-less, step-again, step-found, step-over}
 use Rattle.squares.proofs.Testing.{both, left, right}
 use Rattle.retraction_gen.proofs.Remaining.{found, turn-gives, rest-sequence}
-use Rattle.accept.proofs.Tested.{beside-none}
+use Rattle.refusal.proofs.Tested.{beside-none}
 use Rattle.retraction_gen.proofs.Gated.{list-passed}
-use Rattle.retraction_gen.proofs.Sourced.{list-sound}
+use Rattle.retraction_gen.proofs.Sources.{list-sound}
 
 -- a turn keeps a cursor well formed
 sound-set : (es : List SourceAndTargets) (i n : ℕ) → sound (take n (set es i (lessened (getD es i noEntry)))) ≡ sound (take n es)
@@ -62,8 +63,8 @@ unfolding wellFormed turnIn
 ways-formed g false z = refl
 ways-formed g true true = refl
 ways-formed g true false =
-    in-formed g (passedTo (entryAt g) (lowestOf (entryAt g .targets))) (uncapturedTo (entryAt g) (lowestOf (entryAt g .targets)) (g .uncaptured))
-    (passing (entryAt g .kind)) (leb 6 (g .uncaptured))
+    in-formed g (unEnPassantTo (entryAt g) (lowestOf (entryAt g .targets))) (uncapturedTo (entryAt g) (lowestOf (entryAt g .targets)) (g .uncaptured))
+    (isUnEnPassant (entryAt g .kind)) (leb 6 (g .uncaptured))
     (barred (getD (g .masks) (g .uncaptured) 0) (entryAt g .source) (entryAt g .kind) (g .uncaptured))
 
 pub turn-formed : (g : RetractionGen) → wellFormed (turnOf g .cursor) ≡ wellFormed g
@@ -110,7 +111,7 @@ yields-in (suc n) g f w =
     (λ l. yields-in n (turnOf g .cursor) (lt-of-lt-of-le l (le-of-suc-le-suc f)) (turn-formed g ∙ w)))
 
 -- every well formed cursor yields what remains, and then the end
-pub yields-rest : (g : RetractionGen) → wellFormed g ≡ true → Yields g (restOf g)
+yields-rest : (g : RetractionGen) → wellFormed g ≡ true → Yields g (restOf g)
 yields-rest g w = yields-in (suc (fuel g)) g (le-refl _) w
 
 -- the start
@@ -187,7 +188,7 @@ same-found r r′ e h = subst InRange (ap (foundOr r) e) h
 
 in-range : (g : RetractionGen) (p u b : Bool) → leb 6 (g .uncaptured) ≡ u → lowestOf (entryAt g .targets) < 64 → entryAt g .source < 64
     → InTurn
-    (cond p (turned (spent g) (Found (passedTo (entryAt g) (lowestOf (entryAt g .targets)))))
+    (cond p (turned (spent g) (Found (unEnPassantTo (entryAt g) (lowestOf (entryAt g .targets)))))
     (cond u (turned (withUncaptured (spent g) 0) Again)
     (cond b (turned (withUncaptured g (g .uncaptured + 1)) Again)
     (turned (withUncaptured g (g .uncaptured + 1)) (Found (uncapturedTo (entryAt g) (lowestOf (entryAt g .targets)) (g .uncaptured)))))) .turn)
@@ -202,7 +203,7 @@ unfolding turnIn wellFormed
 ways-range g false z w h k r e = over-no r e
 ways-range g true true w h k r e = no-again r e
 ways-range g true false w h k r e =
-    in-range g (passing (entryAt g .kind)) (leb 6 (g .uncaptured))
+    in-range g (isUnEnPassant (entryAt g .kind)) (leb 6 (g .uncaptured))
     (barred (getD (g .masks) (g .uncaptured) 0) (entryAt g .source) (entryAt g .kind) (g .uncaptured)) refl
     (let l : lowestOf (entryAt g .targets) ≤ 63 = ltb-false 63 (lowestOf (entryAt g .targets)) k in omega arith)
     (sound-at (g .entries) (g .len) (g .index) (right (leb (g .len) 47) _ w) (on-len g h)) r e

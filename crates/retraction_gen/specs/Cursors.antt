@@ -7,13 +7,13 @@ use lib.Dec.{eqb, leb, ltb}
 use lib.ListN.{length, getD, set, take, drop}
 use Rattle.squares.specs.Tests.{_and_, _or_}
 use Rattle.squares.specs.Squares.{has, setOf, besides, flag}
-use Rattle.squares.specs.Members.{members, headOr}
+use Rattle.squares.specs.Members.{members, lowestOf}
 use Rattle.laws.specs.declared.ChessRetraction.{ChessRetraction}
-use Rattle.accept.specs.Said.{Said, told}
-use Rattle.roll.specs.declared.UnCaptureKind.{UnCaptureKind}
-use Rattle.roll.specs.declared.UnCaptureKind.the-variants.{Optional, Necessary, Forbidden, UnEnPassant}
-use Rattle.roll.specs.declared.SourceAndTargets.{SourceAndTargets}
-use Rattle.roll.specs.Roll.{noEntry, entryOf}
+use Rattle.refusal.specs.Said.{Said, told}
+use Rattle.retraction_list.specs.declared.UnCaptureKind.{UnCaptureKind}
+use Rattle.retraction_list.specs.declared.UnCaptureKind.the-variants.{Optional, Necessary, Forbidden, UnEnPassant}
+use Rattle.retraction_list.specs.declared.SourceAndTargets.{SourceAndTargets}
+use Rattle.retraction_list.specs.Entries.{noEntry, entryOf, sound}
 use Rattle.retraction_gen.specs.declared.RetractionGen.{RetractionGen}
 use Rattle.retraction_gen.specs.declared.Turn.{Turn}
 use Rattle.retraction_gen.specs.declared.Turn.the-variants.{Again, Found, Over}
@@ -58,11 +58,7 @@ back g x = record { cursor = g; said = x }
 abbrev pub entryAt : RetractionGen → SourceAndTargets
 entryAt g = getD (g .entries) (g .index) noEntry
 
--- "targets from the lowest square": the lowest, 64 of the empty set
-unfoldable pub lowestOf : ℕ → ℕ
-lowestOf s = headOr 64 (members s)
-
--- `retraction.targets ^= BitBoard::from_square(target)`, of the lowest target
+-- "targets from the lowest square": `retraction.targets ^= BitBoard::from_square(target)`, of the lowest target
 abbrev pub lessened : SourceAndTargets → SourceAndTargets
 lessened e = entryOf (e .source) (setOf (besides (e .targets) (lowestOf (e .targets)))) (e .kind) (e .unpromotion)
 
@@ -70,11 +66,11 @@ unfoldable pub spent : RetractionGen → RetractionGen
 spent g = withEntries g (set (g .entries) (g .index) (lessened (entryAt g)))
 
 -- `retraction.uncapture_kind == UnCaptureKind::UnEnPassant`
-abbrev pub passing : UnCaptureKind → Bool
-passing Optional = false
-passing Necessary = false
-passing Forbidden = false
-passing UnEnPassant = true
+abbrev pub isUnEnPassant : UnCaptureKind → Bool
+isUnEnPassant Optional = false
+isUnEnPassant Necessary = false
+isUnEnPassant Forbidden = false
+isUnEnPassant UnEnPassant = true
 
 -- `uncapture_kind == Necessary && uncaptured.is_none() || uncapture_kind == Forbidden && uncaptured.is_some()`
 abbrev pub against : UnCaptureKind → ℕ → Bool
@@ -88,8 +84,8 @@ unfoldable pub barred : ℕ → ℕ → UnCaptureKind → ℕ → Bool
 barred mask s k u = not (has mask s) or against k u
 
 -- `ChessRetraction::new(retraction.source, target, None, false)`
-abbrev pub passedTo : SourceAndTargets → ℕ → ChessRetraction
-passedTo e t = record { source = e .source; target = t; uncaptured = 0; unpromotion = false }
+abbrev pub unEnPassantTo : SourceAndTargets → ℕ → ChessRetraction
+unEnPassantTo e t = record { source = e .source; target = t; uncaptured = 0; unpromotion = false }
 
 -- `ChessRetraction::new(retraction.source, target, uncaptured, retraction.unpromotion)`
 abbrev pub uncapturedTo : SourceAndTargets → ℕ → ℕ → ChessRetraction
@@ -98,7 +94,7 @@ uncapturedTo e t u = record { source = e .source; target = t; uncaptured = u; un
 -- a turn at an entry that has a target (353 to 384)
 unfoldable pub turnIn : RetractionGen → SourceAndTargets → Turned
 turnIn g e =
-    cond (passing (e .kind)) (turned (spent g) (Found (passedTo e (lowestOf (e .targets)))))
+    cond (isUnEnPassant (e .kind)) (turned (spent g) (Found (unEnPassantTo e (lowestOf (e .targets)))))
     (cond (leb 6 (g .uncaptured)) (turned (withUncaptured (spent g) 0) Again)
     (cond (barred (getD (g .masks) (g .uncaptured) 0) (e .source) (e .kind) (g .uncaptured)) (turned (withUncaptured g (g .uncaptured + 1)) Again)
     (turned (withUncaptured g (g .uncaptured + 1)) (Found (uncapturedTo e (lowestOf (e .targets)) (g .uncaptured))))))
@@ -135,11 +131,6 @@ runOf (suc n) g = answered (turnOf g .turn) (turnOf g .cursor) (runOf n (turnOf 
 
 unfoldable pub stepOf : RetractionGen → Answered
 stepOf g = runOf (suc (fuel g)) g
-
--- every source is a square
-unfoldable pub sound : List SourceAndTargets → Bool
-sound [] = true
-sound (e ∷ es) = ltb (e .source) 64 and sound es
 
 -- "A cursor with a length above 47 or, below its length, a source above 63" is none of these
 unfoldable pub wellFormed : RetractionGen → Bool

@@ -1,4 +1,4 @@
 pub mod Making
 pub mod Cursors
 pub mod Sequence
-pub mod Rest
+pub mod inner

@@ -5,26 +5,31 @@ use mathlib.Core.List.{List, [], _∷_, _++_}
 use Prim.Native.Nat.{ℕ}
 use lib.Dec.{eqb, leb}
 use lib.ListN.{length}
-use Rattle.accept.specs.declared.Refusal.the-variants.{Full}
-use Rattle.accept.specs.Verdicts.{verdictNumber}
-use Rattle.accept.specs.Said.{Test, _else_, firstFailing}
+use Rattle.refusal.specs.declared.Refusal.the-variants.{Full}
+use Rattle.refusal.specs.Refusals.{verdictNumber}
+use Rattle.refusal.specs.Said.{Test, _else_, firstFailing}
 use Rattle.board.specs.declared.RetractableBoard.{RetractableBoard}
-use Rattle.board.specs.Gate.{boardTests}
-use Rattle.roll.specs.declared.SourceAndTargets.{SourceAndTargets}
-use Rattle.roll.specs.declared.RetractionList.{RetractionList}
-use Rattle.roll.specs.Roll.{holding, fullList}
-use Rattle.masks.specs.Masks.{masksOf}
+use Rattle.board.specs.Gate.{positionOn, boardTests}
+use Rattle.view.specs.declared.View.{View}
+use Rattle.view.specs.Views.{viewOf}
+use Rattle.retraction_list.specs.declared.SourceAndTargets.{SourceAndTargets}
+use Rattle.retraction_list.specs.declared.RetractionList.{RetractionList}
+use Rattle.retraction_list.specs.Entries.{holding, fullList}
+use Rattle.uncaptured.specs.Masks.{masksOf}
 use Rattle.enumerate.specs.Lists.{listOf}
 use Rattle.retraction_gen.specs.declared.RetractionGen.{RetractionGen}
 use Rattle.retraction_gen.specs.declared.Made.{Made}
 use Rattle.retraction_gen.specs.declared.Masks.{Masks}
 
--- the ported list, and the six masks, of a board
+-- what the lists see of a board, the ported list, and the six masks
+abbrev pub viewOn : RetractableBoard → View
+viewOn b = viewOf (positionOn b) (b .combined) (b .pinned) (b .checkers)
+
 unfoldable pub listOn : RetractableBoard → List SourceAndTargets
-listOn b = listOf (b .pieces) (b .colors) (b .combined) (b .turn) (b .white) (b .black) (b .pinned) (b .checkers) (b .passant)
+listOn b = listOf (viewOn b)
 
 unfoldable pub masksOn : RetractableBoard → List ℕ
-masksOn b = masksOf (b .pieces) (b .colors) (b .turn)
+masksOn b = masksOf (positionOn b)
 
 -- `index: 0, uncaptured_index: 0`
 abbrev pub startOf : RetractionList → List ℕ → RetractionGen

@@ -3,20 +3,15 @@
 use mathlib.Core.Path.{_≡_}
 use mathlib.Core.Bool.{Bool, not, cond}
 use mathlib.Core.List.{List, [], _∷_, _++_, map}
-use Prim.Native.Nat.{ℕ, zero, suc}
+use Prim.Native.Nat.{ℕ}
 use lib.ListN.{getD}
-use Rattle.squares.specs.Members.{members, concat}
+use Rattle.squares.specs.Members.{numbersFrom, members, concat}
 use Rattle.laws.specs.declared.ChessRetraction.{ChessRetraction}
 use Rattle.board.specs.declared.RetractableBoard.{RetractableBoard}
-use Rattle.roll.specs.declared.SourceAndTargets.{SourceAndTargets}
+use Rattle.retraction_list.specs.declared.SourceAndTargets.{SourceAndTargets}
 use Rattle.retraction_gen.specs.declared.RetractionGen.{RetractionGen}
 use Rattle.retraction_gen.specs.Making.{listOn, masksOn}
-use Rattle.retraction_gen.specs.Cursors.{retractionSaid, endSaid, passing, barred, passedTo, uncapturedTo, nextOf}
-
--- the n numbers from u on, those that pass the test
-unfoldable pub numbersFrom : ℕ → ℕ → (ℕ → Bool) → List ℕ
-numbersFrom zero u p = []
-numbersFrom (suc n) u p = cond (p u) (u ∷ numbersFrom n (suc u) p) (numbersFrom n (suc u) p)
+use Rattle.retraction_gen.specs.Cursors.{retractionSaid, endSaid, isUnEnPassant, barred, unEnPassantTo, uncapturedTo, nextOf}
 
 -- the kind and the masks allow an uncapture
 abbrev pub allowed : List ℕ → SourceAndTargets → ℕ → Bool
@@ -24,7 +19,7 @@ allowed ms e u = not (barred (getD ms u 0) (e .source) (e .kind) u)
 
 -- what one target of an entry gives
 abbrev pub atTarget : List ℕ → SourceAndTargets → ℕ → List ChessRetraction
-atTarget ms e t = cond (passing (e .kind)) (passedTo e t ∷ []) (map (uncapturedTo e t) (numbersFrom 6 0 (allowed ms e)))
+atTarget ms e t = cond (isUnEnPassant (e .kind)) (unEnPassantTo e t ∷ []) (map (uncapturedTo e t) (numbersFrom (allowed ms e) 0 6))
 
 -- entries in order, targets from the lowest
 unfoldable pub sequenceOf : List ℕ → List SourceAndTargets → List ChessRetraction

@@ -1,15 +1,34 @@
-// The cursor's start, and one turn of it: what a call of the Rust's `next` does before it answers or calls itself.
+// The cursor of a board, its start, and one turn of it: what a call of the Rust's `next` does before it answers or calls itself.
+use super::Made;
 use super::RetractionGen;
 use super::Turn;
 use super::Turned;
+use board::RetractableBoard;
 use laws::ChessRetraction;
-use roll::RetractionList;
-use roll::UnCaptureKind;
+use refusal::Refusal;
+use refusal::Verdict;
+use retraction_list::RetractionList;
+use retraction_list::UnCaptureKind;
+use view::View;
 ghost use mathlib.Core.Path.{_≡_};
 ghost use Prim.Native.Nat.{_<_};
-ghost use Rattle.retraction_gen.specs.Making.{startOf};
+ghost use Rattle.geometry.specs.Lines.{IsBetween};
+ghost use Rattle.refusal.specs.declared.Verdict.the-variants.{Refused};
+ghost use Rattle.retraction_gen.specs.Making.{viewOn, listOn, startOf, fullTest, cursorOn, noCursor, Makes};
 ghost use Rattle.retraction_gen.specs.declared.Turn.the-variants.{Again, Found};
-ghost use Rattle.retraction_gen.specs.Cursors.{turned, entryAt, lowestOf, spent, passing, against, barred, turnIn, onEntry, turnOf, wellFormed};
+ghost use Rattle.retraction_gen.specs.Cursors.{turned, entryAt, spent, isUnEnPassant, against, barred, turnIn, onEntry, turnOf, wellFormed};
+
+// What the lists see of a board.
+pub fn seen(b: RetractableBoard) -> View
+    ensures { λ r. ⌜ r ≡ viewOn b ⌝ }
+{
+    view::inner::look(
+        board::inner::position_of(b),
+        b.combined,
+        b.pinned,
+        b.checkers,
+    )
+}
 
 // A cursor at its start.
 pub fn started(list: RetractionList, masks: [u64; 6]) -> RetractionGen
@@ -25,15 +44,36 @@ pub fn started(list: RetractionList, masks: [u64; 6]) -> RetractionGen
     }
 }
 
-// The lowest square, 64 of the empty set.
-fn lowest_target(s: u64) -> u8
-    ensures { λ r. ⌜ r ≡ lowestOf s ⌝ }
+// A refusal beside the empty cursor.
+pub fn refused(why: Refusal) -> Made
+    ensures { λ r. ⌜ (r .verdict ≡ Refused why) × (r .cursor ≡ noCursor) ⌝ }
 {
-    squares::lowest(s)
+    let none = retraction_list::inner::overfull();
+    Made {
+        verdict: Verdict::Refused(why),
+        cursor: started(none, [0; 6]),
+    }
 }
 
-fn passes(k: UnCaptureKind) -> bool
-    ensures { λ r. ⌜ r ≡ passing k ⌝ }
+// The cursor of a board, its gate left to the caller, or FULL. `t` is the table of squares between, lent.
+pub fn made_from(t: &[u64; 4096], b: RetractableBoard) -> Made
+    requires { ⌜ IsBetween (now t) ⌝ }
+    ensures { λ r. ⌜ Makes (fullTest (listOn b)) (cursorOn b) r ⌝ }
+{
+    let v = seen(b);
+    let list = enumerate::inner::enumerate(t, v);
+    if list.full {
+        return refused(Refusal::Full);
+    }
+    let masks = uncaptured::inner::candidates(board::inner::position_of(b));
+    Made {
+        verdict: Verdict::Accepted,
+        cursor: started(list, masks),
+    }
+}
+
+fn is_un_en_passant(k: UnCaptureKind) -> bool
+    ensures { λ r. ⌜ r ≡ isUnEnPassant k ⌝ }
 {
     match k {
         UnCaptureKind::Optional => false,
@@ -67,7 +107,7 @@ fn spend(g: RetractionGen) -> RetractionGen
 {
     let i = g.index;
     let t = g.entries[i].targets;
-    let rest = squares::without(t, lowest_target(t));
+    let rest = squares::without(t, squares::lowest(t));
     let mut out = g;
     out.entries[i].targets = rest;
     out
@@ -98,8 +138,8 @@ fn turn_in(g: RetractionGen) -> Turned
     let i = g.index;
     let e = g.entries[i];
     let k = e.kind;
-    let target = lowest_target(e.targets);
-    if passes(k) {
+    let target = squares::lowest(e.targets);
+    if is_un_en_passant(k) {
         let r = ChessRetraction {
             source: e.source,
             target,
@@ -146,7 +186,7 @@ pub fn one_turn(g: RetractionGen) -> Turned
     }
     let i = g.index;
     let targets = g.entries[i].targets;
-    if lowest_target(targets) > 63 {
+    if squares::lowest(targets) > 63 {
         let mut g2 = g;
         g2.index = i + 1;
         return again(g2);

@@ -1,17 +1,13 @@
 // The cursor over a board's retractions: the Rust's retraction_gen.rs.
-use accept::Refusal;
-use accept::Verdict;
 use board::RetractableBoard;
 use laws::ChessRetraction;
-use roll::SourceAndTargets;
-ghost use mathlib.Core.Path.{_≡_};
-ghost use Rattle.geometry.specs.Lines.{IsBetween};
-ghost use Rattle.accept.specs.declared.Verdict.the-variants.{Refused};
+use refusal::Verdict;
+use retraction_list::SourceAndTargets;
 ghost use Rattle.board.specs.Gate.{boardTests};
-ghost use Rattle.retraction_gen.specs.Making.{listOn, masksOn, fullTest, listTests, cursorOn, noCursor, Makes, Masked};
+ghost use Rattle.retraction_gen.specs.Making.{masksOn, listTests, cursorOn, Makes, Masked};
 ghost use Rattle.retraction_gen.specs.Cursors.{Steps};
 
-pub mod inner; // inner.rt: the cursor's start, and one turn of it
+pub mod inner; // inner.rt: making the cursor, and one turn of it
 
 // The entries, 47 at most; the place of the entry in work and the number of its uncapture; the squares of each uncapture.
 pub struct RetractionGen {
@@ -57,49 +53,6 @@ pub struct Turned {
     pub turn: Turn,
 }
 
-fn refused(why: Refusal) -> Made
-    ensures { λ r. ⌜ (r .verdict ≡ Refused why) × (r .cursor ≡ noCursor) ⌝ }
-{
-    let none = roll::inner::overfull();
-    Made {
-        verdict: Verdict::Refused(why),
-        cursor: inner::started(none, [0; 6]),
-    }
-}
-
-// The cursor of an accepted board, or FULL.
-fn made_from(t: &[u64; 4096], b: RetractableBoard) -> Made
-    requires { ⌜ IsBetween (now t) ⌝ }
-    ensures { λ r. ⌜ Makes (fullTest (listOn b)) (cursorOn b) r ⌝ }
-{
-    let pieces = b.pieces;
-    let colors = b.colors;
-    let turn = b.turn;
-    let white = b.white;
-    let black = b.black;
-    let passant = b.passant;
-    let list = enumerate::inner::enumerate(
-        t,
-        pieces,
-        colors,
-        b.combined,
-        turn,
-        white,
-        black,
-        b.pinned,
-        b.checkers,
-        passant,
-    );
-    if list.full {
-        return refused(Refusal::Full);
-    }
-    let masks = masks::inner::candidates(pieces, colors, turn);
-    Made {
-        verdict: Verdict::Accepted,
-        cursor: inner::started(list, masks),
-    }
-}
-
 impl RetractionGen {
     // The cursor of a board: refusals 1 to 7, then 8.
     pub fn new_legal(b: RetractableBoard) -> Made
@@ -108,8 +61,8 @@ impl RetractionGen {
         let t = tables::between_table();
         let v = board::inner::gate(&t, b);
         match v {
-            Verdict::Refused(why) => refused(why),
-            Verdict::Accepted => made_from(&t, b),
+            Verdict::Refused(why) => inner::refused(why),
+            Verdict::Accepted => inner::made_from(&t, b),
         }
     }
 
@@ -158,10 +111,7 @@ pub fn uncaptured_candidates(b: RetractableBoard) -> Masks
             masks: [0; 6],
         },
         Verdict::Accepted => {
-            let pieces = b.pieces;
-            let colors = b.colors;
-            let turn = b.turn;
-            let masks = masks::inner::candidates(pieces, colors, turn);
+            let masks = uncaptured::inner::candidates(board::inner::position_of(b));
             Masks {
                 verdict: Verdict::Accepted,
                 masks,

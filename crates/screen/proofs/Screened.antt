@@ -9,10 +9,10 @@ use lib.ListN.{length, length-append}
 use Rattle.geometry.specs.Colors.{opp}
 use Rattle.laws.specs.declared.ChessRetraction.{ChessRetraction}
 use Rattle.laws.specs.Retractions.{packed, InRange}
-use Rattle.accept.specs.declared.Refusal.{Refusal}
-use Rattle.accept.specs.declared.Verdict.the-variants.{Accepted, Refused}
-use Rattle.accept.specs.Verdicts.{numberOf, verdictNumber}
-use Rattle.accept.specs.Said.{Test, firstFailing}
+use Rattle.refusal.specs.declared.Refusal.{Refusal}
+use Rattle.refusal.specs.declared.Verdict.the-variants.{Accepted, Refused}
+use Rattle.refusal.specs.Refusals.{numberOf, verdictNumber}
+use Rattle.refusal.specs.Said.{Test, firstFailing}
 use Rattle.board.specs.declared.RetractableBoard.{RetractableBoard}
 use Rattle.board.specs.declared.Boarded.{Boarded}
 use Rattle.board.specs.Gate.{boardTests, noBoard}
@@ -23,13 +23,13 @@ use Rattle.retraction_gen.specs.declared.Next.{Next}
 use Rattle.retraction_gen.specs.declared.Next.the-variants.{Retraction}
 use Rattle.retraction_gen.specs.declared.Stepped.{Stepped}
 use Rattle.retraction_gen.specs.Cursors.{nextSays, Steps}
-use Rattle.feed.specs.Appending.{Adds}
-use Rattle.report.specs.Report.{decimalOf, isIn}
-use Rattle.answer.specs.Replies.{newline, refusedText, Shows}
-use Rattle.accept.proofs.Tested.{beside-none, beside-refused}
-use Rattle.accept.proofs.Writing.{Written, Failed}
-use Rattle.report.proofs.Decimals.{number-short}
-use Rattle.answer.proofs.Shown.{shown, written-added, text-short}
+use Rattle.output.specs.Appending.{Adds}
+use Rattle.rows.specs.Rows.{decimalOf, isIn}
+use Rattle.reply.specs.Replies.{newline, refusedText, Shows}
+use Rattle.refusal.proofs.Tested.{beside-none, beside-refused}
+use Rattle.refusal.proofs.Writing.{Written, Failed}
+use Rattle.rows.proofs.Decimals.{number-short}
+use Rattle.reply.proofs.Shown.{shown, written-added, text-short}
 use Rattle.stepping.proofs.Ranged.{next-range}
 use Rattle.screen.specs.declared.Screen.{Screen}
 use Rattle.screen.specs.declared.Pressed.{Pressed}

@@ -12,7 +12,8 @@ use Rattle.squares.specs.Tests.{_or_}
 use Rattle.laws.specs.declared.ChessRetraction.{ChessRetraction}
 use Rattle.laws.specs.Retractions.{packed, unpacked, InRange}
 use Rattle.laws.specs.Strictness.{strict}
-use Rattle.accept.specs.declared.Verdict.the-variants.{Accepted}
+use Rattle.laws.specs.StrictLists.{In, here, there}
+use Rattle.refusal.specs.declared.Verdict.the-variants.{Accepted}
 use Rattle.board.specs.declared.RetractableBoard.{RetractableBoard}
 use Rattle.board.specs.Gate.{posOn, gateOf}
 use Rattle.retraction_gen.specs.declared.RetractionGen.{RetractionGen}
@@ -22,15 +23,15 @@ use Rattle.retraction_gen.specs.declared.Next.the-variants.{Retraction, End}
 use Rattle.retraction_gen.specs.declared.Stepped.{Stepped}
 use Rattle.retraction_gen.specs.Making.{listTests, cursorOn, Makes}
 use Rattle.retraction_gen.specs.Sequence.{sequenceOn, Yields}
-use Rattle.strict.specs.Demand.{Past, Among, first, later, IsStrictList}
-use Rattle.report.specs.Report.{isIn}
-use Rattle.answer.specs.Replies.{Shows}
+use Rattle.strict.specs.Demand.{Past, IsStrictList}
+use Rattle.rows.specs.Rows.{isIn}
+use Rattle.reply.specs.Replies.{Shows}
 use Rattle.laws.proofs.Packing.{unpacked-packed}
 use Rattle.laws.proofs.StrictMembers.{strict-in}
 use Rattle.retraction_gen.proofs.Stepping.{next-one, steps-one}
 use Rattle.retraction_gen.proofs.Whole.{whole-sequence}
 use Rattle.strict.proofs.Told.{strict-past}
-use Rattle.answer.proofs.Spoken.{shows-one}
+use Rattle.reply.proofs.Spoken.{shows-one}
 use Rattle.stepping.proofs.Pressing.{still-ended}
 use Rattle.screen.specs.declared.Screen.{Screen}
 use Rattle.screen.specs.declared.Pressed.{Pressed}
@@ -49,26 +50,26 @@ shown-one {s} {slots} {o} {x} {y} {r} {q} a b =
 
 -- the slots of a list hold a retraction's number exactly when the list holds it
 module _ (r : ChessRetraction) (h : InRange r) where
-  in-slots : (l : List ChessRetraction) → Among r l → isIn (packed r) (map packed l) ≡ true
+  in-slots : (l : List ChessRetraction) → In r l → isIn (packed r) (map packed l) ≡ true
   unfolding isIn _or_
-  in-slots l (first {l = k}) = rw (eq-eqb (packed r) (packed r) refl)
-  in-slots l (later {q = q} {l = k} z) = by (eqb (packed q) (packed r)) (in-slots k z)
+  in-slots l (here {l = k}) = rw (eq-eqb (packed r) (packed r) refl)
+  in-slots l (there {y = q} {l = k} z) = by (eqb (packed q) (packed r)) (in-slots k z)
     where
       by : (t : Bool) → isIn (packed r) (map packed k) ≡ true → (t or isIn (packed r) (map packed k)) ≡ true
       by true e = refl
       by false e = e
 
-  from-slots : (l : List ChessRetraction) → ((q : ChessRetraction) → Among q l → InRange q) → isIn (packed r) (map packed l) ≡ true → Among r l
+  from-slots : (l : List ChessRetraction) → ((q : ChessRetraction) → In q l → InRange q) → isIn (packed r) (map packed l) ≡ true → In r l
   unfolding isIn _or_
   from-slots [] f e = absurd (false≢true e)
-  from-slots (q ∷ l) f e = by (eqb (packed q) (packed r)) refl (λ k. from-slots l (λ x z. f x (later z)) k) e
+  from-slots (q ∷ l) f e = by (eqb (packed q) (packed r)) refl (λ k. from-slots l (λ x z. f x (there z)) k) e
     where
-      by : (t : Bool) → eqb (packed q) (packed r) ≡ t → (isIn (packed r) (map packed l) ≡ true → Among r l) → (t or isIn (packed r) (map packed l)) ≡ true
-          → Among r (q ∷ l)
+      by : (t : Bool) → eqb (packed q) (packed r) ≡ t → (isIn (packed r) (map packed l) ≡ true → In r l) → (t or isIn (packed r) (map packed l)) ≡ true
+          → In r (q ∷ l)
       by true d g e =
-          let same : q ≡ r = sym (unpacked-packed q (f q first)) ∙ ap unpacked (eqb-true (packed q) (packed r) d) ∙ unpacked-packed r h in
-          subst (λ (x : ChessRetraction). Among r (x ∷ l)) (sym same) first
-      by false d g e = later (g e)
+          let same : q ≡ r = sym (unpacked-packed q (f q here)) ∙ ap unpacked (eqb-true (packed q) (packed r) d) ∙ unpacked-packed r h in
+          subst (λ (x : ChessRetraction). In r (x ∷ l)) (sym same) here
+      by false d g e = there (g e)
 
 -- `strict` is said of a retraction exactly when it has a past
 pub strict-said : (b : RetractableBoard) (moves : List ChessRetraction) → gateOf b ≡ Accepted → IsStrictList b moves → (r : ChessRetraction) → InRange r

@@ -8,7 +8,7 @@ use lib.ListN.{length, take}
 use Rattle.geometry.specs.Colors.{opp}
 use Rattle.laws.specs.declared.ChessRetraction.{ChessRetraction}
 use Rattle.laws.specs.Retractions.{packed}
-use Rattle.accept.specs.Said.{firstFailing}
+use Rattle.refusal.specs.Said.{firstFailing}
 use Rattle.board.specs.declared.RetractableBoard.{RetractableBoard}
 use Rattle.board.specs.Gate.{posOn, boardTests}
 use Rattle.board.specs.Moving.{unmakeTests, unmadeOn}
@@ -18,10 +18,10 @@ use Rattle.retraction_gen.specs.declared.Next.{Next}
 use Rattle.retraction_gen.specs.declared.Next.the-variants.{Retraction, End}
 use Rattle.retraction_gen.specs.declared.Stepped.{Stepped}
 use Rattle.retraction_gen.specs.Cursors.{Steps}
-use Rattle.report.specs.Report.{decimalOf, isIn}
+use Rattle.rows.specs.Rows.{decimalOf, isIn}
 use Rattle.drawing.specs.Words.{bytes, sideName, sourceKind, wordsOf}
 use Rattle.drawing.specs.Diagrams.{drawingOf, diagramOf}
-use Rattle.answer.specs.Replies.{newline, refusedText, Shows}
+use Rattle.reply.specs.Replies.{newline, refusedText, Shows}
 use Rattle.screen.specs.declared.Screen.{Screen}
 use Rattle.screen.specs.declared.Pressed.{Pressed}
 

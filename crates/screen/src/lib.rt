@@ -1,9 +1,9 @@
 // The stepping screen: a board, and one of its last moves for each press.
-use accept::Verdict;
 use board::RetractableBoard;
 use drawing::inner::diagram;
 use drawing::inner::words;
 use laws::ChessRetraction;
+use refusal::Verdict;
 use retraction_gen::Next;
 use retraction_gen::RetractionGen;
 use text::Printed;
@@ -11,7 +11,7 @@ ghost use mathlib.Core.Path.{_≡_};
 ghost use mathlib.Core.Bool.{cond};
 ghost use Rattle.laws.specs.Retractions.{InRange};
 ghost use Rattle.retraction_gen.specs.declared.Next.the-variants.{Retraction, End};
-ghost use Rattle.answer.specs.Replies.{Shows};
+ghost use Rattle.reply.specs.Replies.{Shows};
 ghost use Rattle.screen.specs.Screens.{openingText, boardBefore, retractionText, endText, oneMore, Shown, ShownBy};
 
 // The record of the stepping screen: the board, its cursor, and how many retractions were shown, all and strict ones.
@@ -43,7 +43,7 @@ pub fn opening(b: RetractableBoard, out: &mut [u8; 196608]) -> usize
             words::put(out, side, b" to move. A key shows a last move, q leaves.\n")
         }
         Printed::Room(_) => 0,
-        Printed::Refused(why) => answer::put_refused(why, out),
+        Printed::Refused(why) => reply::put_refused(why, out),
     }
 }
 
@@ -110,7 +110,7 @@ fn shown(
 {
     let board = s.board;
     let listed = one_more(s.listed);
-    let is_strict = report::inner::contains(strict, laws::inner::pack(r));
+    let is_strict = rows::inner::contains(strict, laws::inner::pack(r));
     let size = put_retraction(board, listed, r, is_strict, out);
     Pressed {
         screen: Screen {

@@ -13,11 +13,10 @@ enum Line {
     Malformed,
 }
 
-// The lines are counted down from a number that no input uses up. A line of another form ends them.
+// No input uses the turns up. A line of another form ends them.
 pub(super) fn show_all() {
     let mut line = [0u8; 17];
-    let mut turns = u64::MAX;
-    while turns > 0 {
+    for _ in 0..u64::MAX {
         let l = next(&mut line);
         match l {
             Line::End => {
@@ -29,7 +28,6 @@ pub(super) fn show_all() {
             }
             Line::Set(occ) => {
                 show_set(occ);
-                turns -= 1;
             }
         }
     }
@@ -52,7 +50,7 @@ fn set_of(line: &[u8; 17]) -> Line {
     }
     let mut set = 0u64;
     for i in 0usize..16 {
-        let d = feed::hex_digit(line[i]);
+        let d = input::hex_digit(line[i]);
         if d > 15 {
             return Line::Malformed;
         }

@@ -14,7 +14,7 @@ use Rattle.squares.specs.Squares.{has, flag, upTo, setOf, only}
 use Rattle.squares.proofs.Testing.{both, left, right, either, or-left, or-right, cases}
 use Rattle.squares.proofs.Digits.{differs, has-xor}
 use Rattle.squares.proofs.Comprehension.{upTo-lt, upTo-cong, upTo-has, is-upTo, has-setOf, only-is}
-use Rattle.sliding.specs.Seen.{opens}
+use Rattle.sliding.specs.inner.Seen.{opens}
 
 differs-none : (h : Bool) → differs h false ≡ h
 differs-none true = refl

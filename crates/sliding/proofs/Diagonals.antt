@@ -16,7 +16,7 @@ use Rattle.squares.proofs.Digits.{has-shl-mod}
 use Rattle.squares.proofs.Comprehension.{upTo-cong, upTo-none, setOf-none, empty, or-setOf}
 use Rattle.squares.proofs.Every.{number-law}
 use Rattle.geometry.specs.Lines.{apart, sameRank, sameFile, sameDiagonal, straight, diagonal, line}
-use Rattle.sliding.specs.Diagonals.{rising, falling, ranked}
+use Rattle.sliding.specs.inner.Diagonals.{rising, falling, ranked}
 
 -- two coordinates are as far apart as two others, in the same direction or in the opposite one
 same-apart : (x y u v : ℕ) → apart x y ≡ apart u v → (eqb (x + v) (y + u) or eqb (x + u) (y + v)) ≡ true

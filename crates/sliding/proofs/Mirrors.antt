@@ -12,8 +12,8 @@ use Rattle.squares.specs.Squares.{odd, has, setOf, allTo, everySquare}
 use Rattle.squares.proofs.Testing.{left, right, and-true, and-false, and-swap, and-group, or-false, known, agree}
 use Rattle.squares.proofs.Digits.{has-and, has-or, has-shr, has-shl-mod}
 use Rattle.squares.proofs.Comprehension.{is-upTo, upTo-cong, has-setOf}
-use Rattle.squares.proofs.Every.{square-law, square-eq}
-use Rattle.sliding.specs.Seen.{Halves, turn, flipped, mirrored, moved, opens, seen}
+use Rattle.squares.proofs.Every.{all-at, square-eq}
+use Rattle.sliding.specs.inner.Seen.{Halves, turn, flipped, mirrored, moved, opens, seen}
 
 -- one of two squares, by the half that k is in
 either-half : (s x y : ℕ) (t : Bool) → ((has s y and not t) or (has s x and t)) ≡ has s (cond t x y)
@@ -46,7 +46,7 @@ swap-is s m n hm h =
 then : (f g h : ℕ → ℕ) → everySquare (λ k. ltb (f k) 64 and eqb (g (f k)) (h k)) ≡ true → (s : ℕ) → moved f (moved g s) ≡ moved h s
 then f g h e s =
     upTo-cong 64 (λ k. has (moved g s) (f k)) (λ k. has s (h k))
-    (λ k l. let t = square-law (λ j. ltb (f j) 64 and eqb (g (f j)) (h j)) e k l in
+    (λ k l. let t = all-at 64 (λ j. ltb (f j) 64 and eqb (g (f j)) (h j)) e k l in
     has-setOf (λ j. has s (g j)) (f k) (ltb-true (f k) 64 (left _ _ t)) ∙ ap (has s) (eqb-true (g (f k)) (h k) (right _ _ t)))
 
 pub flip-is : (s : ℕ) → moved (turn 32) (moved (turn 16) (moved (turn 8) s)) ≡ moved flipped s
@@ -62,7 +62,7 @@ mirror-is s =
 
 pub flipped-lt : (k : ℕ) → k < 64 → flipped k < 64
 unfolding allTo _and_
-flipped-lt k h = ltb-true (flipped k) 64 (square-law (λ j. ltb (flipped j) 64) refl k h)
+flipped-lt k h = ltb-true (flipped k) 64 (all-at 64 (λ j. ltb (flipped j) 64) refl k h)
 
 -- what is seen both ways, on a line
 pub seen-is : (g : ℕ → ℕ) → ((k : ℕ) → k < 64 → g k < 64) → (a x y m : ℕ) → m < 2 ^ 64 → y ≡ moved g x

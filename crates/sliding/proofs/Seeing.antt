@@ -17,8 +17,8 @@ use Rattle.squares.proofs.Every.{all-at, all-of}
 use Rattle.geometry.specs.Lines.{between, inside, sameRank, sameFile, sameDiagonal, straight, diagonal, aligned, clear, free}
 use Rattle.geometry.specs.Steps.{reaches}
 use Rattle.geometry.proofs.Between.{Inside, inside-facts, inside-of, Between, between-facts}
-use Rattle.sliding.specs.Seen.{moved, flipped, mirrored, opens, seen}
-use Rattle.sliding.specs.Diagonals.{rising, falling}
+use Rattle.sliding.specs.inner.Seen.{moved, flipped, mirrored, opens, seen}
+use Rattle.sliding.specs.inner.Diagonals.{rising, falling}
 use Rattle.sliding.proofs.Borrowing.{opens-above, opens-free, opens-of}
 use Rattle.sliding.proofs.Diagonals.{onRank, onFile, straight-is, diagonal-is}
 

@@ -1,2 +1,1 @@
-pub mod Diagonals
-pub mod Seen
+pub mod inner

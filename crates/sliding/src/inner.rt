@@ -7,7 +7,7 @@ ghost use Rattle.squares.specs.Tests.{_and_};
 ghost use Rattle.squares.specs.Squares.{has, setOf};
 ghost use Rattle.geometry.specs.Lines.{straight, diagonal, aligned, free};
 ghost use Rattle.geometry.specs.Steps.{reaches};
-ghost use Rattle.sliding.specs.Seen.{flipped, mirrored, opens, seen};
+ghost use Rattle.sliding.specs.inner.Seen.{flipped, mirrored, opens, seen};
 
 pub mod lines; // inner/lines.rt: the lines of a square and of two squares
 mod mirrors; // inner/mirrors.rt: a set with its ranks, or its squares, in the opposite order

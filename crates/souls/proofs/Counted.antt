@@ -1,49 +1,55 @@
--- Men counted by the ones of their sets.
-use mathlib.Core.Path.{_≡_, refl, ap, _∙_}
+-- On clean men the souls counted on a side's sets are those of the Laws.
+use mathlib.Core.Path.{_≡_, ap, _∙_}
 use mathlib.Core.Bool.{Bool, not}
-use Prim.Native.Nat.{ℕ, _+_, _-_, _<_, _≤_}
+use mathlib.Core.List.{List, [], _∷_}
+use Prim.Native.Nat.{ℕ, _+_}
 use native.Mathlib.Omega.{arith}
 use lib.Bits.{bitAnd}
 use Rattle.squares.specs.Tests.{_and_}
-use Rattle.squares.specs.Squares.{has, size, allTo}
+use Rattle.squares.specs.Squares.{has, setOf, size, howMany}
 use Rattle.geometry.specs.declared.Color.{Color}
 use Rattle.laws.specs.declared.Piece.{Piece}
-use Rattle.laws.specs.declared.Piece.the-variants.{Pawn, Bishop}
-use Rattle.laws.specs.Men.{man, Men, sameMan}
+use Rattle.laws.specs.declared.Piece.the-variants.{Pawn, Knight, Bishop, Rook, Queen, King}
+use Rattle.laws.specs.Men.{man, sameMan}
 use Rattle.laws.specs.Souls.{dark, number, souls}
-use Rattle.men.specs.Standing.{menOf}
-use Rattle.souls.specs.Parts.{bishopsOn, minorsOf, majorsOf}
+use Rattle.laws.specs.Boards.{kindSet, colorSet, menAt, Clean}
+use Rattle.men.specs.inner.Standing.{menOf}
+use Rattle.souls.specs.Sets.{lightSquares, darkSquares, soulsOf}
 use Rattle.squares.proofs.Digits.{has-and}
-use Rattle.squares.proofs.Every.{square-eq}
-use Rattle.squares.proofs.Counting.{count-cong, count-le}
-use Rattle.men.proofs.Having.{has-menOf}
+use Rattle.squares.proofs.Comprehension.{has-setOf}
+use Rattle.squares.proofs.Counting.{count-cong}
+use Rattle.men.proofs.Having.{has-menOf, size-menOf, men-of-is}
 
-pub number-le : (m : Men) (c : Color) (k : Piece) → number m c k ≤ 64
-number-le m c k = count-le 64 (λ a. sameMan (m a) (man c k))
+-- the sets of the men that stand in a set, by kind
+abbrev pub kindsIn : List ℕ → ℕ → List ℕ
+kindsIn pieces s =
+    bitAnd (kindSet pieces Pawn) s ∷ bitAnd (kindSet pieces Knight) s ∷ bitAnd (kindSet pieces Bishop) s ∷ bitAnd (kindSet pieces Rook) s
+    ∷ bitAnd (kindSet pieces Queen) s ∷ bitAnd (kindSet pieces King) s ∷ []
 
-pub bishops-le : (m : Men) (c : Color) (f : ℕ → Bool) → bishopsOn m c f ≤ 64
-unfolding bishopsOn
-bishops-le m c f = count-le 64 (λ a. sameMan (m a) (man c Bishop) and f a)
+module _ (pieces colors : List ℕ) (ok : Clean pieces colors) (c : Color) where
+  abbrev set : Piece → ℕ
+  set k = bitAnd (kindSet pieces k) (colorSet colors c)
 
-pub bishops-is : (m : Men) (c : Color) (s : ℕ) → size (bitAnd (menOf m c Bishop) s) ≡ bishopsOn m c (has s)
-unfolding bishopsOn
-bishops-is m c s =
-    count-cong 64 (has (bitAnd (menOf m c Bishop) s)) (λ a. sameMan (m a) (man c Bishop) and has s a)
-    (λ a l. has-and (menOf m c Bishop) s a ∙ ap (λ (t : Bool). t and has s a) (has-menOf m c Bishop a l))
+  all-of : (k : Piece) → size (set k) ≡ number (menAt pieces colors) c k
+  all-of k = ap size (men-of-is pieces colors ok c k) ∙ size-menOf (menAt pieces colors) c k
 
-bishops-cong : (m : Men) (c : Color) (f g : ℕ → Bool) → ((a : ℕ) → a < 64 → f a ≡ g a) → bishopsOn m c f ≡ bishopsOn m c g
-unfolding bishopsOn
-bishops-cong m c f g e =
-    count-cong 64 (λ a. sameMan (m a) (man c Bishop) and f a) (λ a. sameMan (m a) (man c Bishop) and g a) (λ a l. ap (λ (t : Bool). sameMan (m a) (man c Bishop) and t) (e a l))
+  -- those of them on the squares that pass a test
+  some-of : (k : Piece) (p : ℕ → Bool) → size (bitAnd (set k) (setOf p)) ≡ howMany (λ a. sameMan (menAt pieces colors a) (man c k) and p a)
+  some-of k p =
+      rw (men-of-is pieces colors ok c k)
+      (count-cong 64 (has (bitAnd (menOf (menAt pieces colors) c k) (setOf p))) (λ a. sameMan (menAt pieces colors a) (man c k) and p a)
+      (λ a h. has-and (menOf (menAt pieces colors) c k) (setOf p) a ∙ rw (has-menOf (menAt pieces colors) c k a h, has-setOf p a h)))
 
-pub light-is : (m : Men) (c : Color) → bishopsOn m c (has 0x55aa_55aa_55aa_55aa) ≡ bishopsOn m c (λ a. not (dark a))
-unfolding has allTo _and_
-light-is m c = bishops-cong m c (has 0x55aa_55aa_55aa_55aa) (λ a. not (dark a)) (square-eq (has 0x55aa_55aa_55aa_55aa) (λ a. not (dark a)) refl)
-
-pub dark-is : (m : Men) (c : Color) → bishopsOn m c (has 0xaa55_aa55_aa55_aa55) ≡ bishopsOn m c dark
-unfolding has allTo _and_
-dark-is m c = bishops-cong m c (has 0xaa55_aa55_aa55_aa55) dark (square-eq (has 0xaa55_aa55_aa55_aa55) dark refl)
-
-pub souls-is : (m : Men) (c : Color) → (number m c Pawn - 0) + minorsOf m c + majorsOf m c ≡ souls m c
-unfolding minorsOf majorsOf bishopsOn
-souls-is m c = omega arith
+  pub souls-are : soulsOf (kindsIn pieces (colorSet colors c)) ≡ souls (menAt pieces colors) c
+  unfolding soulsOf lightSquares darkSquares
+  souls-are =
+      let p = all-of Pawn in
+      let n = all-of Knight in
+      let l = some-of Bishop (λ k. not (dark k)) in
+      let d = some-of Bishop dark in
+      let r = all-of Rook in
+      let q = all-of Queen in
+      rw (p, n, l, d, r, q) (regroup _ _ _ _ _ _)
+    where
+      regroup : (p n l d r q : ℕ) → p + (n + l + d + r + q) ≡ p + n + l + d + r + q
+      regroup p n l d r q = omega arith

@@ -1,57 +1,59 @@
 // Souls: the pawns of a side and the men that must have been pawns, counted by the ones of their sets.
 use laws::Color;
-use laws::Piece;
 ghost use mathlib.Core.Path.{_≡_};
-ghost use Prim.Native.Nat.{_≤_, _-_};
-ghost use Rattle.squares.specs.Squares.{has};
+ghost use Prim.Native.Nat.{_≤_};
 ghost use Rattle.laws.specs.Souls as laws;
 ghost use Rattle.laws.specs.Boards.{menAt, Clean};
-ghost use Rattle.souls.specs.Parts.{bishopsOn, minorsOf, majorsOf};
+ghost use Rattle.souls.specs.Sets.{lightSquares, darkSquares, beyondOf, soulsOf};
 
-// How far n stands above k.
-pub fn above(n: u32, k: u32) -> u32
-    ensures { λ r. ⌜ r ≡ n - k ⌝ }
+pub fn light_squares() -> u64
+    ensures { λ r. ⌜ r ≡ lightSquares ⌝ }
 {
-    if n > k { n - k } else { 0 }
+    0x55aa_55aa_55aa_55aa
 }
 
-// The men of a kind above k.
-fn surplus(pieces: [u64; 6], colors: [u64; 2], kind: Piece, color: Color, k: u32) -> u32
-    requires { ⌜ Clean pieces colors ⌝ }
-    ensures { λ r. ⌜ (r ≡ laws.number (menAt pieces colors) color kind - k) × (r ≤ 64) ⌝ }
+pub fn dark_squares() -> u64
+    ensures { λ r. ⌜ r ≡ darkSquares ⌝ }
 {
-    above(men::inner::number(pieces, colors, kind, color), k)
+    0xaa55_aa55_aa55_aa55
 }
 
-// The bishops among the squares of a set.
-fn bishops_on(pieces: [u64; 6], colors: [u64; 2], color: Color, set: u64) -> u32
-    requires { ⌜ Clean pieces colors ⌝ }
-    ensures { λ r. ⌜ (r ≡ bishopsOn (menAt pieces colors) color (has set)) × (r ≤ 64) ⌝ }
+// How many men of a set go beyond m.
+fn beyond(s: u64, m: u32) -> u32
+    ensures { λ r. ⌜ (r ≡ beyondOf s m) × (r ≤ 64) ⌝ }
 {
-    squares::count(men::inner::men_of(pieces, colors, Piece::Bishop, color) & set)
+    let n = squares::count(s);
+    if n > m { n - m } else { 0 }
 }
 
-fn minors(pieces: [u64; 6], colors: [u64; 2], color: Color) -> u32
-    requires { ⌜ Clean pieces colors ⌝ }
-    ensures { λ r. ⌜ (r ≡ minorsOf (menAt pieces colors) color) × (r ≤ 192) ⌝ }
+// Of the sets of a side's men by kind.
+pub fn souls_of(f: [u64; 6]) -> u32
+    ensures { λ r. ⌜ r ≡ soulsOf f ⌝ }
 {
-    let knights = surplus(pieces, colors, Piece::Knight, color, 2);
-    let light = bishops_on(pieces, colors, color, 0x55aa_55aa_55aa_55aa);
-    let dark = bishops_on(pieces, colors, color, 0xaa55_aa55_aa55_aa55);
-    knights + above(light, 1) + above(dark, 1)
+    let light = light_squares();
+    let dark = dark_squares();
+    let pawns = squares::count(f[0]);
+    let knights = beyond(f[1], 2);
+    let bright = beyond(f[2] & light, 1);
+    let shady = beyond(f[2] & dark, 1);
+    let rooks = beyond(f[3], 2);
+    let queens = beyond(f[4], 1);
+    pawns + (knights + bright + shady + rooks + queens)
 }
 
-fn majors(pieces: [u64; 6], colors: [u64; 2], color: Color) -> u32
-    requires { ⌜ Clean pieces colors ⌝ }
-    ensures { λ r. ⌜ (r ≡ majorsOf (menAt pieces colors) color) × (r ≤ 128) ⌝ }
-{
-    surplus(pieces, colors, Piece::Rook, color, 2) + surplus(pieces, colors, Piece::Queen, color, 1)
-}
-
+// Of a colour's men.
 pub fn souls(pieces: [u64; 6], colors: [u64; 2], color: Color) -> u32
     requires { ⌜ Clean pieces colors ⌝ }
     ensures { λ r. ⌜ r ≡ laws.souls (menAt pieces colors) color ⌝ }
 {
-    let pawns = surplus(pieces, colors, Piece::Pawn, color, 0);
-    pawns + minors(pieces, colors, color) + majors(pieces, colors, color)
+    let c = men::inner::color_place(color);
+    let side = colors[c];
+    souls_of([
+        pieces[0] & side,
+        pieces[1] & side,
+        pieces[2] & side,
+        pieces[3] & side,
+        pieces[4] & side,
+        pieces[5] & side,
+    ])
 }

@@ -1,4 +1,4 @@
--- Tests of every square and of some square, and facts over all squares by computing them at each: `square-law p refl k h`.
+-- Tests of every square and of some square, and facts over all squares by computing them at each: `square-eq p q refl k h`.
 use mathlib.Core.Path.{_≡_, refl, sym, ap, ap₂, _∙_, subst}
 use mathlib.Core.Logic.{_⊎_, inl, inr, ⊎-elim}
 use mathlib.Core.Bool.{Bool, true, false, not}
@@ -92,16 +92,9 @@ some-test p = ap not (none-test p) ∙ not-all 64 p
 pub number-law : (n : ℕ) (f g : ℕ → ℕ) → allTo n (λ k. eqb (f k) (g k)) ≡ true → (k : ℕ) → k < n → f k ≡ g k
 number-law n f g e k h = eqb-true (f k) (g k) (all-at n (λ j. eqb (f j) (g j)) e k h)
 
--- a test computed at all squares, at all pairs and at all triples
-pub square-law : (p : ℕ → Bool) → allTo 64 p ≡ true → (k : ℕ) → k < 64 → p k ≡ true
-square-law p = all-at 64 p
-
+-- a test computed at all squares, and at all pairs
 pub square-eq : (p q : ℕ → Bool) → allTo 64 (λ k. agree (p k) (q k)) ≡ true → (k : ℕ) → k < 64 → p k ≡ q k
 square-eq p q e k h = agree-eq (p k) (q k) (all-at 64 (λ j. agree (p j) (q j)) e k h)
 
 pub pair-eq : (p q : ℕ → ℕ → Bool) → allTo 64 (λ a. allTo 64 (λ b. agree (p a b) (q a b))) ≡ true → (a b : ℕ) → a < 64 → b < 64 → p a b ≡ q a b
 pair-eq p q e a b ha hb = agree-eq (p a b) (q a b) (all-at 64 (λ j. agree (p a j) (q a j)) (all-at 64 (λ i. allTo 64 (λ j. agree (p i j) (q i j))) e a ha) b hb)
-
-pub triple-eq : (p q : ℕ → ℕ → ℕ → Bool) → allTo 64 (λ a. allTo 64 (λ b. allTo 64 (λ k. agree (p a b k) (q a b k)))) ≡ true
-    → (a b k : ℕ) → a < 64 → b < 64 → k < 64 → p a b k ≡ q a b k
-triple-eq p q e a b k ha hb hk = square-eq (p a b) (q a b) (all-at 64 (λ j. allTo 64 (λ i. agree (p a j i) (q a j i))) (all-at 64 (λ i. allTo 64 (λ j. allTo 64 (λ l. agree (p i j l) (q i j l)))) e a ha) b hb) k hk

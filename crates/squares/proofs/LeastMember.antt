@@ -1,9 +1,8 @@
 -- The least member of a set, `trailing_zeros`, and a set with a member taken out: what a loop over the members goes by. At any width.
 use mathlib.Core.Path.{_≡_, refl, sym, ap, ap₂, _∙_, subst}
-use mathlib.Core.Logic.{⊎-elim}
-use mathlib.Core.Bool.{true≢false, Bool, true, false, not}
+use mathlib.Core.Bool.{Bool, true, false, not}
 use Prim.Native.Nat.{ℕ, zero, suc, _+_, _-_, _*_, _/_, _%_, _^_, _<_, suc-le-suc}
-use native.Mathlib.Nat.{eq-or-lt-of-le, le-of-suc-le-suc, not-suc-le-zero, zero-lt-suc, lt-irrefl, lt-of-le-of-lt, lt-suc-self, mod-lt, add-zero, one-mul}
+use native.Mathlib.Nat.{le-of-suc-le-suc, not-suc-le-zero, zero-lt-suc, lt-irrefl, lt-of-le-of-lt, lt-suc-self, mod-lt, add-zero, one-mul}
 use native.Mathlib.Omega.{arith}
 use native.Mathlib.Numerals.{add-one}
 use lib.Dec.{eqb}
@@ -13,11 +12,21 @@ use lib.Pow.{pow-pos, pow-lt, shr-lt}
 use lib.Bits.{bitAnd, bitXor, and-le-l, and-le-r, xor-add-and}
 use borrow.Author.Tests.{eqb-true, eq-eqb, ne-eqb, lt-ltb}
 use Rattle.squares.specs.Tests.{_and_}
-use Rattle.squares.specs.Squares.{has, flag, upTo, setOf, only, countTo, besides, Least, LeastOr64}
-use Rattle.squares.proofs.Testing.{order, and-true, and-false}
+use Rattle.squares.specs.Squares.{has, flag, upTo, setOf, only, countTo, besides}
+use Rattle.squares.proofs.Testing.{and-true, and-false}
 use Rattle.squares.proofs.Digits.{two-pos, differs, has-and, has-xor, has-first, has-half, has-single}
 use Rattle.squares.proofs.Comprehension.{upTo-cong, upTo-none, is-upTo, has-upTo, has-setOf, has-not, member-below, upTo-lt}
 use Rattle.squares.proofs.Counting.{count-cong, count-out}
+
+-- k is the least member of s
+pub record Least (s k : ℕ) : Type 0 where
+  pub member : has s k ≡ true
+  pub least : (j : ℕ) → j < k → has s j ≡ false
+
+-- k is the least member of s, or 64 where s has none
+pub record LeastOr64 (s k : ℕ) : Type 0 where
+  pub none : s ≡ 0 → k ≡ 64
+  pub some : 0 < s → (k < 64) × Least s k
 
 pub least-member : (n s : ℕ) → 0 < s → s < 2 ^ n → (trailingZeros n s < n) × Least s (trailingZeros n s)
 unfolding trailingZeros
@@ -106,13 +115,3 @@ without-is s k h =
     ∙ ap (λ (t : Bool). has s j and t)
     (has-not 64 (only k) j (upTo-lt 64 (λ i. eqb i k))
     ∙ ap₂ (λ (t u : Bool). t and not u) (lt-ltb j 64 l) (has-setOf (λ i. eqb i k) j l)))
-
--- there is one such number
-pub least-one : (s a b : ℕ) → Least s a → Least s b → a ≡ b
-least-one s a b p q = ⊎-elim (λ l. absurd (clash a (q .least a l) (p .member))) (λ l. ⊎-elim (λ e. sym e) (λ k. absurd (clash b (p .least b k) (q .member))) (eq-or-lt-of-le l)) (order a b)
-  where
-    clash : (k : ℕ) → has s k ≡ false → has s k ≡ true → ⊥
-    clash k x y = true≢false (sym y ∙ x)
-
-pub least-or-64-one : (s a b : ℕ) → LeastOr64 s a → LeastOr64 s b → a ≡ b
-least-or-64-one s a b p q = ⊎-elim (λ h. least-one s a b (p .some h .1) (q .some h .1)) (λ h. let z : s ≡ 0 = omega arith in p .none z ∙ sym (q .none z)) (order 0 s)

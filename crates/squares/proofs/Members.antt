@@ -4,17 +4,18 @@ use mathlib.Core.Path.{_≡_, refl, sym, ap, ap₂, _∙_, subst}
 use mathlib.Core.Logic.{_⊎_, inl, inr, ⊎-elim}
 use mathlib.Core.Bool.{Bool, true, false, not, cond}
 use mathlib.Core.List.{List, [], _∷_, _++_, append-assoc}
-use Prim.Native.Nat.{ℕ, zero, suc, _%_, _^_, _<_, _≤_}
-use native.Mathlib.Nat.{le-refl, le-suc, le-trans, lt-trans, mod-eq-of-lt, not-suc-le-zero, zero-lt-suc}
+use Prim.Native.Nat.{ℕ, zero, suc, _^_, _<_, _≤_}
+use native.Mathlib.Nat.{le-refl, le-suc, le-trans, lt-trans, not-suc-le-zero}
 use native.Mathlib.Omega.{arith}
+use lib.Count.{trailingZeros}
 use borrow.Author.Tests.{eq-eqb, ne-eqb}
 use Rattle.squares.specs.Tests.{_and_}
-use Rattle.squares.specs.Squares.{has, setOf, besides, LeastOr64}
-use Rattle.squares.specs.Members.{listTo, members, headOr, firstOf, forEach, concat}
+use Rattle.squares.specs.Squares.{has, setOf, besides}
+use Rattle.squares.specs.Members.{listTo, members, headOr, lowestOf, firstOf, forEach, concat}
 use Rattle.squares.proofs.Testing.{order, and-true, and-false}
 use Rattle.squares.proofs.Digits.{has-zero}
 use Rattle.squares.proofs.Comprehension.{has-setOf}
-use Rattle.squares.proofs.LeastMember.{without-less}
+use Rattle.squares.proofs.LeastMember.{LeastOr64, least-or-64, without-less}
 
 -- no number passes: the empty list
 list-none : (n : ℕ) (p : ℕ → Bool) → ((k : ℕ) → k < n → p k ≡ false) → listTo n p ≡ []
@@ -56,36 +57,30 @@ members-next s k p m =
     (has-setOf (besides s k) k (h .0) ∙ ap (λ (t : Bool). has s k and not t) (eq-eqb k k refl) ∙ and-false (has s k))
     (λ j l d. sym (has-setOf (besides s k) j l ∙ ap (λ (t : Bool). has s j and not t) (ne-eqb j k d) ∙ and-true (has s j)))
 
--- `to_square`, from the lowest member or 64
-pub first-is : (s k : ℕ) → LeastOr64 s k → k % 64 ≡ firstOf s
-unfolding firstOf
-first-is s k m = ⊎-elim some none (order 0 s)
+-- the lowest of the members is the least one, or 64
+pub lowest-is : (s k : ℕ) → LeastOr64 s k → k ≡ lowestOf s
+unfolding lowestOf
+lowest-is s k m = ⊎-elim some none (order 0 s)
   where
-    some : 0 < s → k % 64 ≡ headOr 0 (members s)
-    some p = mod-eq-of-lt (m .some p .0) ∙ sym (ap (headOr 0) (members-next s k p m))
+    some : 0 < s → k ≡ headOr 64 (members s)
+    some p = sym (ap (headOr 64) (members-next s k p m))
 
-    none : s ≤ 0 → k % 64 ≡ headOr 0 (members s)
+    none : s ≤ 0 → k ≡ headOr 64 (members s)
     none p =
         let e : s ≡ 0 = omega arith in
-        ap (λ (x : ℕ). x % 64) (m .none e) ∙ sym (ap (λ (x : ℕ). headOr 0 (members x)) e ∙ ap (headOr 0) members-none)
+        m .none e ∙ sym (ap (λ (x : ℕ). headOr 64 (members x)) e ∙ ap (headOr 64) members-none)
 
--- it is a square, whatever the set
-head-lt : (xs ys : List ℕ) → headOr 0 xs < 64 → headOr 0 ys < 64 → headOr 0 (xs ++ ys) < 64
-head-lt [] ys a b = b
-head-lt (x ∷ xs) ys a b = a
+pub least-of : {s k : ℕ} → s < 2 ^ 64 → k ≡ lowestOf s → LeastOr64 s k
+least-of {s} h e = subst (LeastOr64 s) (lowest-is s (trailingZeros 64 s) (least-or-64 s h) ∙ sym e) (least-or-64 s h)
 
-list-head-lt : (n : ℕ) (p : ℕ → Bool) → n ≤ 64 → headOr 0 (listTo n p) < 64
-unfolding listTo
-list-head-lt zero p h = zero-lt-suc 63
-list-head-lt (suc n) p h = head-lt (listTo n p) (cond (p n) (n ∷ []) []) (list-head-lt n p (omega arith)) (at (p n))
-  where
-    at : (t : Bool) → headOr 0 (cond t (n ∷ []) []) < 64
-    at true = h
-    at false = zero-lt-suc 63
+-- that of a set with members is a square
+pub lowest-lt : {s k : ℕ} → s < 2 ^ 64 → (s ≡ 0 → ⊥) → k ≡ lowestOf s → k < 64
+lowest-lt h p e = least-of h e .some (omega arith) .0
 
+-- `to_square` gives a square, whatever the set
 pub first-lt : (s : ℕ) → firstOf s < 64
-unfolding firstOf members
-first-lt s = list-head-lt 64 (has s) (le-refl 64)
+unfolding firstOf
+first-lt s = omega arith
 
 -- what is collected from two lists of members, one behind the other
 pub concat-both : {A : Type 0} (f : ℕ → List A) (xs ys : List ℕ) → concat f (xs ++ ys) ≡ concat f xs ++ concat f ys
@@ -102,17 +97,17 @@ pub going-starts : {A : Type 0} (f : A → ℕ → A) (start : A) {set : ℕ} �
 going-starts f start h = record { fits = h; whole = refl }
 
 -- the measure is the set, as a number
-pub going-less : (left k next : ℕ) → left < 2 ^ 64 → (left ≡ 0 → ⊥) → LeastOr64 left k → next ≡ setOf (besides left k) → next < left
-going-less left k next h p m e = subst (λ (x : ℕ). x < left) (sym e) (without-less 64 left k h (m .some (omega arith) .1 .member))
+pub going-less : (left k next : ℕ) → left < 2 ^ 64 → (left ≡ 0 → ⊥) → k ≡ lowestOf left → next ≡ setOf (besides left k) → next < left
+going-less left k next h p m e = subst (λ (x : ℕ). x < left) (sym e) (without-less 64 left k h (least-of h m .some (omega arith) .1 .member))
 
-pub going-on : {A : Type 0} {f : A → ℕ → A} {start x y : A} {set left k next : ℕ} → Going f start set x left → (left ≡ 0 → ⊥) → LeastOr64 left k
+pub going-on : {A : Type 0} {f : A → ℕ → A} {start x y : A} {set left k next : ℕ} → Going f start set x left → (left ≡ 0 → ⊥) → k ≡ lowestOf left
     → y ≡ f x k → next ≡ setOf (besides left k) → Going f start set y next
 unfolding forEach
 going-on {A} {f} {start} {x} {y} {set} {left} {k} {next} g p m e r = record {
   fits = lt-trans (going-less left k next (g .fits) p m r) (g .fits);
   whole =
       ap₂ (λ (z : A) (n : ℕ). forEach f z (members n)) e r
-      ∙ ap (forEach f x) (sym (members-next left k (omega arith) m))
+      ∙ ap (forEach f x) (sym (members-next left k (omega arith) (least-of (g .fits) m)))
       ∙ g .whole;
 }
 

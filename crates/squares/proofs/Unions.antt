@@ -8,12 +8,14 @@ use lib.Bits.{bitOr, or-lt}
 use lib.Pow.{pow-pos}
 use borrow.Author.Tests.{eqb-true}
 use Rattle.squares.specs.Tests.{_and_, _or_}
-use Rattle.squares.specs.Squares.{united, has, setOf, someSquare, besides, LeastOr64}
+use Rattle.squares.specs.Squares.{united, has, setOf, someSquare, besides}
+use Rattle.squares.specs.Members.{lowestOf}
 use Rattle.squares.proofs.Testing.{both, left, right, either, or-left, or-right, or-false, bool-ext}
 use Rattle.squares.proofs.Digits.{has-or, has-zero}
 use Rattle.squares.proofs.Comprehension.{is-upTo, upTo-lt, has-setOf}
 use Rattle.squares.proofs.Every.{any-of, any-at, any-cong, any-none}
 use Rattle.squares.proofs.LeastMember.{without-less}
+use Rattle.squares.proofs.Members.{least-of}
 
 -- the member a counted apart from the rest
 apart : (f : ℕ → ℕ → Bool) (s a k : ℕ) → a < 64 → has s a ≡ true → united f s k ≡ (f a k or united f (setOf (besides s a)) k)
@@ -60,7 +62,7 @@ or-group true b c = refl
 or-group false b c = refl
 
 -- a turn: a is the lowest member left, x its set, and left′ what is left then
-pub unite-turn : (f : ℕ → ℕ → Bool) (s left r a x left′ : ℕ) → Uniting f s left r → 0 < left → LeastOr64 left a → x ≡ setOf (f a) → left′ ≡ setOf (besides left a)
+pub unite-turn : (f : ℕ → ℕ → Bool) (s left r a x left′ : ℕ) → Uniting f s left r → 0 < left → a ≡ lowestOf left → x ≡ setOf (f a) → left′ ≡ setOf (besides left a)
     → Uniting f s left′ (bitOr r x)
 unite-turn f s left r a x left′ u p low ex el = record {
   left-fits = rw el (upTo-lt 64 (besides left a));
@@ -69,12 +71,12 @@ unite-turn f s left r a x left′ u p low ex el = record {
       rw (ex, el)
       (ap (λ (t : Bool). t or united f (setOf (besides left a)) k) (has-or r (setOf (f a)) k ∙ ap (λ (t : Bool). has r k or t) (has-setOf (f a) k l))
       ∙ or-group (has r k) (f a k) (united f (setOf (besides left a)) k)
-      ∙ ap (λ (t : Bool). has r k or t) (sym (apart f left a k (low .some p .0) (low .some p .1 .member)))
+      ∙ ap (λ (t : Bool). has r k or t) (sym (apart f left a k (least-of (u .left-fits) low .some p .0) (least-of (u .left-fits) low .some p .1 .member)))
       ∙ u .whole k l);
 }
 
-pub unite-less : (f : ℕ → ℕ → Bool) (s left r a left′ : ℕ) → Uniting f s left r → 0 < left → LeastOr64 left a → left′ ≡ setOf (besides left a) → left′ < left
-unite-less f s left r a left′ u p low el = rw el (without-less 64 left a (u .left-fits) (low .some p .1 .member))
+pub unite-less : (f : ℕ → ℕ → Bool) (s left r a left′ : ℕ) → Uniting f s left r → 0 < left → a ≡ lowestOf left → left′ ≡ setOf (besides left a) → left′ < left
+unite-less f s left r a left′ u p low el = rw el (without-less 64 left a (u .left-fits) (least-of (u .left-fits) low .some p .1 .member))
 
 none-left : (f : ℕ → ℕ → Bool) (k : ℕ) → united f 0 k ≡ false
 unfolding united _and_

@@ -1,8 +1,7 @@
 -- Squares and sets of squares. A set is a number below 2 ^ 64, and the square k is a member where binary digit k is 1.
 -- Everything here computes on numerals.
 use mathlib.Core.Bool.{Bool, true, false, not}
-use mathlib.Core.Path.{_≡_}
-use Prim.Native.Nat.{ℕ, zero, suc, _+_, _*_, _/_, _%_, _^_, _-_, _<_}
+use Prim.Native.Nat.{ℕ, zero, suc, _+_, _*_, _/_, _%_, _^_, _-_}
 use lib.Dec.{eqb, leb, ltb}
 use Rattle.squares.specs.Tests.{_and_, _or_}
 
@@ -70,16 +69,6 @@ someSquare p = anyTo 64 p
 -- the square k passes the test of some member of s
 unfoldable pub united : (ℕ → ℕ → Bool) → ℕ → ℕ → Bool
 united f s k = someSquare (λ a. has s a and f a k)
-
--- k is the least member of s
-pub record Least (s k : ℕ) : Type 0 where
-  pub member : has s k ≡ true
-  pub least : (j : ℕ) → j < k → has s j ≡ false
-
--- k is the least member of s, or 64 where s has none
-pub record LeastOr64 (s k : ℕ) : Type 0 where
-  pub none : s ≡ 0 → k ≡ 64
-  pub some : 0 < s → (k < 64) × Least s k
 
 -- the square k is a member of s other than j
 abbrev pub besides : ℕ → ℕ → ℕ → Bool

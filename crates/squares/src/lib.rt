@@ -3,7 +3,8 @@
 ghost use mathlib.Core.Path.{_≡_};
 ghost use mathlib.Core.Bool.{cond};
 ghost use lib.Dec.{eqb};
-ghost use Rattle.squares.specs.Squares.{file, rank, has, setOf, only, size, LeastOr64, besides, overOne, underOne, leftOfOne, rightOfOne};
+ghost use Rattle.squares.specs.Squares.{file, rank, has, setOf, only, size, besides, overOne, underOne, leftOfOne, rightOfOne};
+ghost use Rattle.squares.specs.Members.{lowestOf};
 
 // The set of one square (`BitBoard::from_square`).
 pub fn bit(k: u8) -> u64
@@ -20,7 +21,7 @@ pub fn has(s: u64, k: u8) -> bool
 
 // The lowest member (`to_square`), 64 of the empty set.
 pub fn lowest(s: u64) -> u8
-    ensures { λ r. ⌜ LeastOr64 s r ⌝ }
+    ensures { λ r. ⌜ r ≡ lowestOf s ⌝ }
 {
     u64::trailing_zeros(s) as u8
 }

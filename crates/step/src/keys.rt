@@ -1,7 +1,7 @@
 // The keys of a terminal, cut out of the bytes that it sends.
 use super::presses;
 use super::presses::Press;
-use feed::Cursor;
+use input::Cursor;
 use libc::STDIN_FILENO;
 ghost use Prim.Native.Nat.{_≤_, _<_};
 

@@ -1,17 +1,17 @@
 // The stepping screen: shows the board of a text, and one of its last moves for each press. The text is the argument; without one, texts are
 // lines of standard input, each with its presses behind it.
-use accept::Refusal;
-use accept::Verdict;
-use feed::Cursor;
-use feed::Step;
+use input::Cursor;
+use input::Step;
 use libc::STDERR_FILENO;
 use libc::STDIN_FILENO;
 use libc::STDOUT_FILENO;
-use listing::Listed;
 use presses::Press;
+use refusal::Refusal;
+use refusal::Verdict;
 use retraction_gen::Next;
 use retraction_gen::RetractionGen;
 use screen::Screen;
+use slots::Listed;
 ghost use Prim.Native.Nat.{_≤_};
 ghost use Rattle.io.specs.Counts.{Counts};
 
@@ -38,7 +38,7 @@ fn main() {
     let mut line = [0u8; 512];
     let mut strict = [0u16; 8192];
     let mut out = [0u8; 196608];
-    let start = feed::start();
+    let start = input::start();
     if os::arg_count() > 1 {
         let len = os::arg(1, &mut line);
         let by_key = libc::isatty(STDIN_FILENO) == 1;
@@ -56,7 +56,7 @@ fn main() {
     show_all(start, &mut chunk, &mut line, &mut strict, &mut out);
 }
 
-// Each text of standard input. The turns are counted down from a number that no input uses up.
+// Each text of standard input, which does not use the turns up.
 fn show_all(
     start: Cursor,
     chunk: &mut [u8; 65536],
@@ -65,9 +65,8 @@ fn show_all(
     out: &mut [u8; 196608],
 ) {
     let mut c = start;
-    let mut turns = u64::MAX;
-    while turns > 0 {
-        let s = feed::next(chunk, line, c);
+    for _ in 0..u64::MAX {
+        let s = input::next(chunk, line, c);
         match s {
             Step::End => {
                 return;
@@ -82,7 +81,6 @@ fn show_all(
                     return;
                 }
                 c = left.unread;
-                turns -= 1;
             }
         }
     }
@@ -145,7 +143,7 @@ fn first_of(a: Verdict, b: Verdict) -> Verdict {
 fn closed(screen: Screen, why: Refusal, out: &mut [u8; 196608]) -> Opened
     ensures { λ r. ⌜ r .strict ≤ 8192 ⌝ }
 {
-    let n = answer::put_refused(why, out);
+    let n = reply::put_refused(why, out);
     let is_written = write(out, n);
     Opened {
         screen,
@@ -188,8 +186,7 @@ fn step_through(
 ) -> Left {
     let mut s = start;
     let mut c = unread;
-    let mut turns = u64::MAX;
-    while turns > 0 {
+    for _ in 0..u64::MAX {
         let p = presses::next(by_key, chunk, line, c);
         let Press::Key(byte, next) = p else {
             return left_at(c, true);
@@ -207,7 +204,6 @@ fn step_through(
         }
         s = z.screen;
         c = next;
-        turns -= 1;
     }
     left_at(c, true)
 }

@@ -1,7 +1,7 @@
 // The presses that standard input brings: on a terminal each key is one, elsewhere each line.
 use super::keys;
-use feed::Cursor;
-use feed::Step;
+use input::Cursor;
+use input::Step;
 use libc::STDERR_FILENO;
 
 // A press by its first byte, 0 for an empty line, and what is unread behind it; or no more.
@@ -19,7 +19,7 @@ pub(super) fn next(
     if by_key {
         return keys::next(chunk, c);
     }
-    let s = feed::next(chunk, line, c);
+    let s = input::next(chunk, line, c);
     match s {
         Step::Line { len, long: _, next } => Press::Key(first(line, len), next),
         Step::End => Press::Over,

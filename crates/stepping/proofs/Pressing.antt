@@ -2,7 +2,7 @@
 use mathlib.Core.Path.{_≡_, refl, sym, ap, ap₂, _∙_, subst}
 use mathlib.Core.List.{List, [], _∷_}
 use lib.ListN.{length}
-use Rattle.accept.specs.declared.Verdict.the-variants.{Accepted}
+use Rattle.refusal.specs.declared.Verdict.the-variants.{Accepted}
 use Rattle.board.specs.declared.RetractableBoard.{RetractableBoard}
 use Rattle.laws.specs.declared.ChessRetraction.{ChessRetraction}
 use Rattle.retraction_gen.specs.declared.RetractionGen.{RetractionGen}

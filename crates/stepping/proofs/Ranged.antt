@@ -9,7 +9,7 @@ use Rattle.retraction_gen.specs.declared.RetractionGen.{RetractionGen}
 use Rattle.retraction_gen.specs.declared.Turn.{Turn}
 use Rattle.retraction_gen.specs.declared.Turn.the-variants.{Again, Found, Over}
 use Rattle.retraction_gen.specs.Cursors.{retractionSaid, endSaid, Answered, back, turnOf, fuel, stepOf, wellFormed, nextOf}
-use Rattle.accept.proofs.Writing.{no-value}
+use Rattle.refusal.proofs.Writing.{no-value}
 use Rattle.retraction_gen.proofs.Going.{again-less, step-again, step-found, step-over}
 use Rattle.retraction_gen.proofs.Whole.{turn-formed, turn-range}
 use Rattle.retraction_gen.proofs.Stepping.{retraction-one}

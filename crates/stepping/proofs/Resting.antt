@@ -10,8 +10,9 @@ use Rattle.laws.specs.declared.ChessRetraction.{ChessRetraction}
 use Rattle.retraction_gen.specs.declared.RetractionGen.{RetractionGen}
 use Rattle.retraction_gen.specs.declared.Turn.{Turn}
 use Rattle.retraction_gen.specs.declared.Turn.the-variants.{Again, Found, Over}
-use Rattle.retraction_gen.specs.Cursors.{withIndex, withUncaptured, turned, endSaid, Answered, back, entryAt, lowestOf, spent, passing, barred, passedTo, uncapturedTo, turnIn, onEntry, turnOf, fuel, stepOf, wellFormed, nextOf}
-use Rattle.accept.proofs.Writing.{no-value}
+use Rattle.retraction_gen.specs.Cursors.{withIndex, withUncaptured, turned, endSaid, Answered, back, entryAt, spent, isUnEnPassant, barred, unEnPassantTo, uncapturedTo, turnIn, onEntry, turnOf, fuel, stepOf, wellFormed, nextOf}
+use Rattle.squares.specs.Members.{lowestOf}
+use Rattle.refusal.proofs.Writing.{no-value}
 use Rattle.retraction_gen.proofs.Going.{again-less, step-again, step-found, step-over}
 
 again-over : {A : Type 0} → _≡_ {A = Turn} Again Over → A
@@ -36,8 +37,8 @@ ways-rest g false z e = refl
 ways-rest g true true e = again-over e
 ways-rest g true false e =
     in-goes-on (spent g) (withUncaptured (spent g) 0) (withUncaptured g (g .uncaptured + 1)) (withUncaptured g (g .uncaptured + 1))
-    (passedTo (entryAt g) (lowestOf (entryAt g .targets))) (uncapturedTo (entryAt g) (lowestOf (entryAt g .targets)) (g .uncaptured))
-    (passing (entryAt g .kind)) (leb 6 (g .uncaptured))
+    (unEnPassantTo (entryAt g) (lowestOf (entryAt g .targets))) (uncapturedTo (entryAt g) (lowestOf (entryAt g .targets)) (g .uncaptured))
+    (isUnEnPassant (entryAt g .kind)) (leb 6 (g .uncaptured))
     (barred (getD (g .masks) (g .uncaptured) 0) (entryAt g .source) (entryAt g .kind) (g .uncaptured)) e
 
 -- the last turn leaves the cursor as it is

@@ -7,11 +7,11 @@ use lib.Dec.{eqb, leb}
 use lib.ListN.{length, length-map}
 use Rattle.squares.specs.Tests.{_and_}
 use Rattle.laws.specs.Retractions.{packed}
-use Rattle.accept.specs.Said.{firstFailing, Said, numberSaid, fitting, behind}
+use Rattle.refusal.specs.Said.{firstFailing, Said, numberSaid, fitting, behind}
 use Rattle.board.specs.declared.RetractableBoard.{RetractableBoard}
 use Rattle.board.specs.Gate.{boardTests}
-use Rattle.listing.specs.declared.Listed.{Listed}
-use Rattle.listing.specs.Listing.{listedSays}
+use Rattle.slots.specs.declared.Listed.{Listed}
+use Rattle.slots.specs.Slots.{listedSays}
 use Rattle.strict.specs.Demand.{Lists}
 use Rattle.board.proofs.Numbers.{room-seven}
 

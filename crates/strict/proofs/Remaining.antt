@@ -9,14 +9,15 @@ use lib.ListN.{length}
 use Rattle.laws.specs.declared.ChessRetraction.{ChessRetraction}
 use Rattle.laws.specs.Positions.{Pos}
 use Rattle.laws.specs.Retractions.{InRange}
-use Rattle.laws.specs.StrictLists.{passing, placed}
-use Rattle.strictness.specs.Strictly.{strictFor}
+use Rattle.squares.specs.Members.{numbersFrom}
+use Rattle.laws.specs.StrictLists.{retractionAt}
+use Rattle.strict_test.specs.inner.Strictly.{strictFor}
 use Rattle.strict.specs.Demand.{strictMoves}
-use Rattle.strict.specs.Searching.{testOf, Skips, Next}
+use Rattle.strict.specs.inner.Searching.{testOf, Skips, Next}
 
 -- the retractions at the n places from i on that pass
 unfoldable pub movesFrom : (ℕ → Bool) → ℕ → ℕ → List ChessRetraction
-movesFrom f i n = map placed (passing f i n)
+movesFrom f i n = map retractionAt (numbersFrom f i n)
 
 -- and at all places from i on
 abbrev pub rest : (ℕ → Bool) → ℕ → List ChessRetraction
@@ -24,7 +25,7 @@ rest f i = movesFrom f i (49152 - i)
 
 -- the place i, by whether it passes
 abbrev one-place : (ℕ → Bool) → ℕ → ℕ → Bool → List ChessRetraction
-one-place f i n t = map placed (elim t as (λ _. List ℕ) [ true ↦ i ∷ passing f (suc i) n | false ↦ passing f (suc i) n ])
+one-place f i n t = map retractionAt (elim t as (λ _. List ℕ) [ true ↦ i ∷ numbersFrom f (suc i) n | false ↦ numbersFrom f (suc i) n ])
 
 pass-over : (f : ℕ → Bool) (i n : ℕ) → f i ≡ false → movesFrom f i (suc n) ≡ movesFrom f (suc i) n
 unfolding movesFrom
@@ -36,7 +37,7 @@ skip-on f i (suc d) n h =
     ap (movesFrom f i) (omega arith) ∙ pass-over f i (d + n) (h i (omega arith) (omega arith))
     ∙ skip-on f (suc i) d n (λ k l m. h k (omega arith) (omega arith)) ∙ ap (λ (k : ℕ). movesFrom f k n) (omega arith)
 
-pub rest-skips : (f : ℕ → Bool) (i j : ℕ) → Skips f i j → rest f i ≡ rest f j
+rest-skips : (f : ℕ → Bool) (i j : ℕ) → Skips f i j → rest f i ≡ rest f j
 rest-skips f i j s =
     ap (movesFrom f i) (whole (s .on) (s .most)) ∙ skip-on f i (j - i) (49152 - j) (λ k l m. s .none k l (near (s .on) m)) ∙ ap (λ (k : ℕ). movesFrom f k (49152 - j)) (there (s .on))
   where
@@ -49,10 +50,10 @@ rest-skips f i j s =
     there : i ≤ j → i + (j - i) ≡ j
     there h = omega arith
 
-rest-here : (f : ℕ → Bool) (j : ℕ) → j < 49152 → f j ≡ true → rest f j ≡ placed j ∷ rest f (j + 1)
+rest-here : (f : ℕ → Bool) (j : ℕ) → j < 49152 → f j ≡ true → rest f j ≡ retractionAt j ∷ rest f (j + 1)
 unfolding movesFrom
 rest-here f j h e =
-    ap (movesFrom f j) (more h) ∙ ap (one-place f j (49152 - (j + 1))) e ∙ ap (λ (k : ℕ). placed j ∷ movesFrom f k (49152 - (j + 1))) (omega arith)
+    ap (movesFrom f j) (more h) ∙ ap (one-place f j (49152 - (j + 1))) e ∙ ap (λ (k : ℕ). retractionAt j ∷ movesFrom f k (49152 - (j + 1))) (omega arith)
   where
     more : j < 49152 → 49152 - j ≡ suc (49152 - (j + 1))
     more h = omega arith
@@ -62,7 +63,7 @@ unfolding movesFrom
 length-le f i zero = omega arith
 length-le f i (suc n) = go (f i) (length-le f (suc i) n)
   where
-    go : (t : Bool) → length (map placed (passing f (suc i) n)) ≤ n → length (one-place f i n t) ≤ suc n
+    go : (t : Bool) → length (map retractionAt (numbersFrom f (suc i) n)) ≤ n → length (one-place f i n t) ≤ suc n
     go true h = omega arith
     go false h = omega arith
 
@@ -82,7 +83,7 @@ module _ (f : ℕ → Bool) (i j : ℕ) (x : Next f i j) where
   pub inner : (j ≡ 49152 → ⊥) → j < 49152
   inner h = let l : j ≤ 49152 = x .skips .most in omega arith
 
-  pub one-more : j < 49152 → rest f i ≡ placed j ∷ rest f (j + 1)
+  pub one-more : j < 49152 → rest f i ≡ retractionAt j ∷ rest f (j + 1)
   one-more l = rest-skips f i j (x .skips) ∙ rest-here f j l (x .there l)
 
 pub over : (f : ℕ → Bool) (i : ℕ) → i ≤ 49152 → 49152 ≤ i → rest f i ≡ []
@@ -92,5 +93,5 @@ over f i h l = ap (rest f) (at h l)
     at : i ≤ 49152 → 49152 ≤ i → i ≡ 49152
     at h l = omega arith
 
-pub placed-in : (j : ℕ) → j < 49152 → InRange (placed j)
+pub placed-in : (j : ℕ) → j < 49152 → InRange (retractionAt j)
 placed-in j h = record { source-in = omega arith; target-in = omega arith; uncaptured-in = omega arith }

@@ -6,23 +6,23 @@ use Prim.Native.Nat.{ℕ, _+_, _*_, _/_, _%_, _≤_, _<_}
 use native.Mathlib.Nat.{le-refl, le-trans}
 use native.Mathlib.Omega.{arith}
 use Rattle.laws.specs.Positions.{Pos}
-use Rattle.laws.specs.StrictLists.{placed}
+use Rattle.laws.specs.StrictLists.{retractionAt}
 use Rattle.unmake.specs.Retracted.{sourceFor, targetFor}
-use Rattle.strictness.specs.Coming.{comesFor}
-use Rattle.strict.specs.Searching.{testOf, Skips, Looks}
+use Rattle.strict_test.specs.inner.Coming.{comesFor}
+use Rattle.strict.specs.inner.Searching.{testOf, Skips, Looks}
 use Rattle.squares.proofs.Testing.{order}
-use Rattle.strictness.proofs.Passing.{no-source, no-target, no-coming}
+use Rattle.strict_test.proofs.Passing.{no-source, no-target, no-coming}
 
 -- the source alone decides 9, the target alone 10, and both the step
-source-only : (p : Pos) (i k : ℕ) → i / 768 ≡ k / 768 → sourceFor p (placed i) ≡ sourceFor p (placed k)
+source-only : (p : Pos) (i k : ℕ) → i / 768 ≡ k / 768 → sourceFor p (retractionAt i) ≡ sourceFor p (retractionAt k)
 unfolding sourceFor
 source-only p i k e = rw e
 
-target-only : (p : Pos) (i k : ℕ) → i / 12 % 64 ≡ k / 12 % 64 → targetFor p (placed i) ≡ targetFor p (placed k)
+target-only : (p : Pos) (i k : ℕ) → i / 12 % 64 ≡ k / 12 % 64 → targetFor p (retractionAt i) ≡ targetFor p (retractionAt k)
 unfolding targetFor
 target-only p i k e = rw e
 
-step-only : (p : Pos) (i k : ℕ) → i / 768 ≡ k / 768 → i / 12 % 64 ≡ k / 12 % 64 → comesFor p (placed i) ≡ comesFor p (placed k)
+step-only : (p : Pos) (i k : ℕ) → i / 768 ≡ k / 768 → i / 12 % 64 ≡ k / 12 % 64 → comesFor p (retractionAt i) ≡ comesFor p (retractionAt k)
 unfolding comesFor
 step-only p i k e f = rw (e, f)
 
@@ -37,20 +37,20 @@ module _ (p : Pos) (i : ℕ) (h : i < 49152) where
   block : ((k : ℕ) → i ≤ k → k < (i / 12 + 1) * 12 → testOf p k ≡ false) → Looks (testOf p) i ((i / 12 + 1) * 12)
   block none = record { skips = record { on = omega arith; most = omega arith; none = none }; here = λ q. absurd (omega arith) }
 
-  pub skip-source : sourceFor p (placed i) ≡ false → Looks (testOf p) i ((i / 768 + 1) * 768)
+  pub skip-source : sourceFor p (retractionAt i) ≡ false → Looks (testOf p) i ((i / 768 + 1) * 768)
   unfolding testOf
   skip-source e = record {
-    skips = record { on = omega arith; most = omega arith; none = λ k l m. no-source p (placed k) (source-only p k i (omega arith) ∙ e) };
+    skips = record { on = omega arith; most = omega arith; none = λ k l m. no-source p (retractionAt k) (source-only p k i (omega arith) ∙ e) };
     here = λ q. absurd (omega arith);
   }
 
-  pub skip-target : targetFor p (placed i) ≡ false → Looks (testOf p) i ((i / 12 + 1) * 12)
+  pub skip-target : targetFor p (retractionAt i) ≡ false → Looks (testOf p) i ((i / 12 + 1) * 12)
   unfolding testOf
-  skip-target e = block (λ k l m. no-target p (placed k) (target-only p k i (twelve i k l m .1) ∙ e))
+  skip-target e = block (λ k l m. no-target p (retractionAt k) (target-only p k i (twelve i k l m .1) ∙ e))
 
-  pub skip-coming : comesFor p (placed i) ≡ false → Looks (testOf p) i ((i / 12 + 1) * 12)
+  pub skip-coming : comesFor p (retractionAt i) ≡ false → Looks (testOf p) i ((i / 12 + 1) * 12)
   unfolding testOf
-  skip-coming e = block (λ k l m. no-coming p (placed k) (step-only p k i (twelve i k l m .0) (twelve i k l m .1) ∙ e))
+  skip-coming e = block (λ k l m. no-coming p (retractionAt k) (step-only p k i (twelve i k l m .0) (twelve i k l m .1) ∙ e))
 
 module _ (f : ℕ → Bool) (i : ℕ) where
   pub found : i < 49152 → f i ≡ true → Looks f i i

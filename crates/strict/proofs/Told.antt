@@ -1,6 +1,6 @@
 -- The Laws' strict list is demand 3's list of a board, and the contracts of the entries follow from it.
 use mathlib.Core.Path.{_≡_, refl, sym, ap, ap₂, _∙_, subst}
-use mathlib.Core.Logic.{_⊎_, inl, inr, _↔_}
+use mathlib.Core.Logic.{_↔_}
 use mathlib.Core.Bool.{Bool, true, false}
 use mathlib.Core.List.{List, [], _∷_, map}
 use Prim.Native.Nat.{ℕ, zero, suc, _+_, _*_, _/_, _%_, _≤_, _<_}
@@ -9,40 +9,40 @@ use native.Mathlib.Omega.{arith}
 use borrow.Author.Tests.{eq-eqb}
 use lib.ListN.{length}
 use Rattle.laws.specs.declared.ChessRetraction.{ChessRetraction}
-use Rattle.laws.specs.Retractions.{packed, InRange}
+use Rattle.laws.specs.Retractions.{packed}
 use Rattle.laws.specs.Acceptance.{accepted}
 use Rattle.laws.specs.Strictness.{strict}
 use Rattle.squares.specs.Squares.{flag}
-use Rattle.laws.specs.StrictLists.{passing, place, placed, strictPlaces, Ascending, In, here, there}
+use Rattle.squares.specs.Members.{numbersFrom}
+use Rattle.laws.specs.StrictLists.{place, retractionAt, strictPlaces, Ascending, In, here}
 use Rattle.laws.specs.Boards.{Board, acceptedBoard, BoardPast}
-use Rattle.accept.specs.declared.Refusal.{Refusal}
-use Rattle.accept.specs.declared.Verdict.the-variants.{Accepted, Refused}
-use Rattle.accept.specs.Verdicts.{numberOf, thirdOf, fiveOf, judgedOf}
-use Rattle.accept.specs.Said.{firstFailing, told, Writes}
+use Rattle.refusal.specs.declared.Refusal.{Refusal}
+use Rattle.refusal.specs.declared.Verdict.the-variants.{Accepted, Refused}
+use Rattle.refusal.specs.Refusals.{numberOf}
+use Rattle.accept.specs.Verdicts.{thirdOf, fiveOf, judgedOf}
+use Rattle.refusal.specs.Said.{firstFailing, told, Writes}
 use Rattle.board.specs.declared.RetractableBoard.{RetractableBoard}
-use Rattle.board.specs.Gate.{posOn, toLaws, freshBy, gateBy, gateOf, boardTests}
-use Rattle.listing.specs.declared.Listed.{Listed}
-use Rattle.listing.specs.declared.Listed.the-variants.{Refused as notListed}
-use Rattle.listing.specs.Listing.{listedSays}
+use Rattle.board.specs.Gate.{posOn, toLaws, freshOn, gateOf, boardTests}
+use Rattle.slots.specs.declared.Listed.{Listed}
+use Rattle.slots.specs.declared.Listed.the-variants.{Refused as notListed}
+use Rattle.slots.specs.Slots.{listedSays}
 use Rattle.strict.specs.declared.Counted.the-variants.{Count, Refused as notCounted}
 use Rattle.strict.specs.declared.LastMove.the-variants.{Exists, NoLastMove, Refused as notAnswered}
-use Rattle.strict.specs.Demand.{Past, Among, first, later, IsStrictList, Lists, Counts, Answers, strictMoves}
-use Rattle.strict.specs.Searching.{testOf, Next}
+use Rattle.strict.specs.Demand.{Past, IsStrictList, Lists, Counts, Answers, strictMoves}
+use Rattle.strict.specs.inner.Searching.{testOf, Next}
 use Rattle.squares.proofs.Testing.{both, left, right}
 use Rattle.laws.proofs.Facts.{accepts}
-use Rattle.laws.proofs.StrictMembers.{placed-place, strict-in, strict-order, strict-member}
+use Rattle.laws.proofs.StrictMembers.{map-in, in-map, in-passes, placed-place, strict-in, strict-order, strict-member}
 use Rattle.laws.proofs.BoardPasts.{demand3}
-use Rattle.accept.proofs.Numbered.{never}
-use Rattle.accept.proofs.Saying.{behind-by}
-use Rattle.accept.proofs.Writing.{no-both, writes-behind, writes-refused}
+use Rattle.refusal.proofs.Saying.{never, behind-by}
+use Rattle.refusal.proofs.Writing.{no-both, writes-behind, writes-refused}
 use Rattle.board.proofs.Passing.{Passed, gate-passed}
 use Rattle.board.proofs.Numbers.{gate-refuses, gate-passes}
-use Rattle.strict.proofs.Unique.{among-cases}
 use Rattle.strict.proofs.Remaining.{rest, all-rest, at-end, one-more}
 
 -- the Laws' record of a board is accepted exactly when the gate lets the board pass
 pub gate-by : (b : RetractableBoard) → acceptedBoard (toLaws b) ≡ true → gateOf b ≡ Accepted
-unfolding gateBy judgedOf fiveOf thirdOf freshBy
+unfolding gateOf judgedOf fiveOf thirdOf freshOn
 gate-by b h =
     let a = accepts (posOn b) (right _ _ (left _ _ h)) in rw (left _ _ (left _ _ h), a .kings, a .pawns, a .rights, a .state, a .calm, right _ _ h)
 
@@ -69,30 +69,12 @@ past-is b r = (
   (λ q. (toLaws (q .0), q .1, q .2, accepted-by-gate (q .0) (q .3), q .4)),
 )
 
--- a list of places and the retractions at them
-among-placed : (r : ChessRetraction) (is : List ℕ) → InRange r → In (place r) is → Among r (map placed is)
-among-placed r is h (here {is = js}) = subst (λ (q : ChessRetraction). Among r (q ∷ map placed js)) (sym (placed-place r h)) first
-among-placed r is h (there {is = js} z) = later (among-placed r js h z)
-
-among-passes : (f : ℕ → Bool) (i n : ℕ) (r : ChessRetraction) → Among r (map placed (passing f i n)) → (j : ℕ) × (r ≡ placed j) × (f j ≡ true)
-among-passes f i zero r z = elim z [ ]
-among-passes f i (suc n) r z = go (f i) refl z (among-passes f (suc i) n r)
-  where
-    go : (b : Bool) → f i ≡ b → Among r (map placed (elim b as (λ _. List ℕ) [ true ↦ i ∷ passing f (suc i) n | false ↦ passing f (suc i) n ]))
-        → (Among r (map placed (passing f (suc i) n)) → (j : ℕ) × (r ≡ placed j) × (f j ≡ true)) → (j : ℕ) × (r ≡ placed j) × (f j ≡ true)
-    go true q z ih = which (among-cases z)
-      where
-        which : (r ≡ placed i) ⊎ Among r (map placed (passing f (suc i) n)) → (j : ℕ) × (r ≡ placed j) × (f j ≡ true)
-        which (inl e) = (i, e, q)
-        which (inr k) = ih k
-    go false q z ih = ih z
-
 flag-is : (x : ℕ) → x < 2 → flag (eqb x 1) ≡ x
 flag-is zero h = refl
 flag-is (suc zero) h = refl
 flag-is (suc (suc n)) h = absurd (omega arith)
 
-place-placed : (j : ℕ) → j < 49152 → place (placed j) ≡ j
+place-placed : (j : ℕ) → j < 49152 → place (retractionAt j) ≡ j
 place-placed j h =
     ap (λ (x : ℕ). j / 768 * 768 + (j / 12 % 64 * 12 + (j / 2 % 6 * 2 + x))) (flag-is (j % 2) (omega arith)) ∙ omega (arith, sixth, twelfth)
   where
@@ -102,13 +84,13 @@ place-placed j h =
     twelfth : j / 12 % 64 + j / 768 * 64 ≡ j / 12
     twelfth = omega arith
 
-places-back : (f : ℕ → Bool) (i n : ℕ) → i + n ≤ 49152 → map place (map placed (passing f i n)) ≡ passing f i n
+places-back : (f : ℕ → Bool) (i n : ℕ) → i + n ≤ 49152 → map place (map retractionAt (numbersFrom f i n)) ≡ numbersFrom f i n
 places-back f i zero h = refl
 places-back f i (suc n) h = go (f i) (places-back f (suc i) n (omega arith))
   where
-    go : (b : Bool) → map place (map placed (passing f (suc i) n)) ≡ passing f (suc i) n
-        → map place (map placed (elim b as (λ _. List ℕ) [ true ↦ i ∷ passing f (suc i) n | false ↦ passing f (suc i) n ]))
-        ≡ (elim b as (λ _. List ℕ) [ true ↦ i ∷ passing f (suc i) n | false ↦ passing f (suc i) n ])
+    go : (b : Bool) → map place (map retractionAt (numbersFrom f (suc i) n)) ≡ numbersFrom f (suc i) n
+        → map place (map retractionAt (elim b as (λ _. List ℕ) [ true ↦ i ∷ numbersFrom f (suc i) n | false ↦ numbersFrom f (suc i) n ]))
+        ≡ (elim b as (λ _. List ℕ) [ true ↦ i ∷ numbersFrom f (suc i) n | false ↦ numbersFrom f (suc i) n ])
     go true e = ap₂ (λ (x : ℕ) (l : List ℕ). x ∷ l) (place-placed i (omega arith)) e
     go false e = e
 
@@ -125,18 +107,20 @@ module _ (b : RetractableBoard) (h : gateOf b ≡ Accepted) where
   unfolding strictMoves
   demanded = record {
     members = λ r. (there-is r, back-is r);
-    order = subst Ascending (sym (places-back (λ i. strict (posOn b) (placed i)) 0 49152 (omega arith))) (strict-order (posOn b));
+    order = subst Ascending (sym (places-back (λ i. strict (posOn b) (retractionAt i)) 0 49152 (omega arith))) (strict-order (posOn b));
   }
     where
-      there-is : (r : ChessRetraction) → Among r (map placed (strictPlaces (posOn b))) → Past b r
+      there-is : (r : ChessRetraction) → In r (map retractionAt (strictPlaces (posOn b))) → Past b r
       there-is r z =
-          let q = among-passes (λ i. strict (posOn b) (placed i)) 0 49152 r z in
-          strict-past r .0 (subst (λ (x : ChessRetraction). strict (posOn b) x ≡ true) (sym (q .1)) (q .2))
+          let q = in-map retractionAt (strictPlaces (posOn b)) z in
+          strict-past r .0
+          (subst (λ (x : ChessRetraction). strict (posOn b) x ≡ true) (sym (q .1)) (in-passes (λ i. strict (posOn b) (retractionAt i)) 0 49152 (q .0) (q .2) .2))
 
-      back-is : (r : ChessRetraction) → Past b r → Among r (map placed (strictPlaces (posOn b)))
+      back-is : (r : ChessRetraction) → Past b r → In r (map retractionAt (strictPlaces (posOn b)))
       back-is r q =
           let s : strict (posOn b) r ≡ true = strict-past r .1 q in
-          among-placed r (strictPlaces (posOn b)) (strict-in (posOn b) r s) (strict-member (posOn b) r (strict-in (posOn b) r s) .1 s)
+          let h = strict-in (posOn b) r s in
+          subst (λ (x : ChessRetraction). In x (map retractionAt (strictPlaces (posOn b)))) (placed-place r h) (map-in retractionAt (strict-member (posOn b) r h .1 s))
 
 -- a strict place is a last move, and where there is none there is no last move
 module _ (b : RetractableBoard) (h : gateOf b ≡ Accepted) (j : ℕ) (x : Next (testOf (posOn b)) 0 j) where
@@ -149,12 +133,12 @@ module _ (b : RetractableBoard) (h : gateOf b ≡ Accepted) (j : ℕ) (x : Next 
   pub answers-some : j < 49152 → Answers b Exists
   answers-some l = record {
     number = zero-said;
-    exists = λ _. ((λ _. (placed j, past)), (λ _. refl));
-    none = λ _. ((λ e. no-both e), (λ f. absurd (f (placed j) past)));
+    exists = λ _. ((λ _. (retractionAt j, past)), (λ _. refl));
+    none = λ _. ((λ e. no-both e), (λ f. absurd (f (retractionAt j) past)));
   }
     where
-      past : Past b (placed j)
-      past = whole _ (one-more _ _ _ x l) .members (placed j) .0 first
+      past : Past b (retractionAt j)
+      past = whole _ (one-more _ _ _ x l) .members (retractionAt j) .0 here
 
   pub answers-none : 49152 ≤ j → Answers b NoLastMove
   answers-none f = record {

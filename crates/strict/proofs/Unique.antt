@@ -7,63 +7,59 @@ use native.Mathlib.Omega.{arith}
 use lib.ListN.{length}
 use Rattle.laws.specs.declared.ChessRetraction.{ChessRetraction}
 use Rattle.laws.specs.Retractions.{packed}
-use Rattle.laws.specs.StrictLists.{place, Below, Ascending}
-use Rattle.accept.specs.declared.Refusal.{Refusal}
-use Rattle.accept.specs.declared.Verdict.the-variants.{Accepted, Refused}
-use Rattle.accept.specs.Verdicts.{numberOf}
-use Rattle.accept.specs.Said.{firstFailing, numberSaid, told}
+use Rattle.laws.specs.StrictLists.{place, Below, Ascending, In, here, there}
+use Rattle.refusal.specs.declared.Refusal.{Refusal}
+use Rattle.refusal.specs.declared.Verdict.the-variants.{Accepted, Refused}
+use Rattle.refusal.specs.Refusals.{numberOf}
+use Rattle.refusal.specs.Said.{firstFailing, numberSaid, told}
 use Rattle.board.specs.declared.RetractableBoard.{RetractableBoard}
 use Rattle.board.specs.Gate.{gateOf, boardTests}
-use Rattle.listing.specs.declared.Listed.{Listed}
+use Rattle.slots.specs.declared.Listed.{Listed}
 use Rattle.strict.specs.declared.Counted.{Counted}
 use Rattle.strict.specs.declared.Counted.the-variants.{Count, Refused as notCounted}
 use Rattle.strict.specs.declared.LastMove.{LastMove}
 use Rattle.strict.specs.declared.LastMove.the-variants.{Exists, NoLastMove, Refused as notAnswered}
-use Rattle.strict.specs.Demand.{Among, first, later, IsStrictList, Lists, countedSays, Counts, Answers}
-use Rattle.accept.proofs.Numbered.{never}
-use Rattle.accept.proofs.Saying.{number-one, verdict-one}
-use Rattle.accept.proofs.Tested.{behind-any}
-use Rattle.accept.proofs.Writing.{no-value, writes-any}
+use Rattle.strict.specs.Demand.{IsStrictList, Lists, countedSays, Counts, Answers}
+use Rattle.laws.proofs.StrictMembers.{in-cases}
+use Rattle.refusal.proofs.Saying.{never, number-one, verdict-one}
+use Rattle.refusal.proofs.Tested.{behind-any}
+use Rattle.refusal.proofs.Writing.{no-value, writes-any}
 use Rattle.board.proofs.Numbers.{passed-gate}
-use Rattle.listing.proofs.Telling.{one-listed}
+use Rattle.slots.proofs.Telling.{one-listed}
 
-pub among-cases : {r q : ChessRetraction} {l : List ChessRetraction} → Among r (q ∷ l) → (r ≡ q) ⊎ Among r l
-among-cases first = inl refl
-among-cases (later z) = inr z
+in-none : {r : ChessRetraction} → In r [] → ⊥
+in-none z = elim z [ ]
 
-among-none : {r : ChessRetraction} → Among r [] → ⊥
-among-none z = elim z [ ]
-
-below-at : (i : ℕ) (r : ChessRetraction) (l : List ChessRetraction) → Below i (map place l) → Among r l → i < place r
-below-at i r [] b z = absurd (among-none z)
-below-at i r (q ∷ l) b z = go (among-cases z) (below-at i r l (b .1))
+below-at : (i : ℕ) (r : ChessRetraction) (l : List ChessRetraction) → Below i (map place l) → In r l → i < place r
+below-at i r [] b z = absurd (in-none z)
+below-at i r (q ∷ l) b z = go (in-cases z) (below-at i r l (b .1))
   where
-    go : (r ≡ q) ⊎ Among r l → (Among r l → i < place r) → i < place r
+    go : (r ≡ q) ⊎ In r l → (In r l → i < place r) → i < place r
     go (inl e) ih = subst (λ (x : ChessRetraction). i < place x) (sym e) (b .0)
     go (inr y) ih = ih y
 
-pub same-list : (l k : List ChessRetraction) → Ascending (map place l) → Ascending (map place k) → ((r : ChessRetraction) → Among r l ↔ Among r k) → l ≡ k
+same-list : (l k : List ChessRetraction) → Ascending (map place l) → Ascending (map place k) → ((r : ChessRetraction) → In r l ↔ In r k) → l ≡ k
 same-list [] [] a b f = refl
-same-list [] (q ∷ k) a b f = absurd (among-none (f q .1 first))
-same-list (r ∷ l) [] a b f = absurd (among-none (f r .0 first))
+same-list [] (q ∷ k) a b f = absurd (in-none (f q .1 here))
+same-list (r ∷ l) [] a b f = absurd (in-none (f r .0 here))
 same-list (r ∷ l) (q ∷ k) a b f = ap (λ (x : ChessRetraction). x ∷ l) heads ∙ ap (λ (x : List ChessRetraction). q ∷ x) (same-list l k (a .1) (b .1) tails)
   where
     heads : r ≡ q
-    heads = go (among-cases (f r .0 first)) (among-cases (f q .1 first))
+    heads = go (in-cases (f r .0 here)) (in-cases (f q .1 here))
       where
-        go : (r ≡ q) ⊎ Among r k → (q ≡ r) ⊎ Among q l → r ≡ q
+        go : (r ≡ q) ⊎ In r k → (q ≡ r) ⊎ In q l → r ≡ q
         go (inl e) y = e
         go (inr z) (inl e) = sym e
         go (inr z) (inr y) = absurd (omega (arith, below-at (place q) r k (b .0) z, below-at (place r) q l (a .0) y))
 
-    onward : (c d : ChessRetraction) (m n : List ChessRetraction) → c ≡ d → Below (place c) (map place m) → ((x : ChessRetraction) → Among x (c ∷ m) → Among x (d ∷ n)) → (x : ChessRetraction) → Among x m → Among x n
-    onward c d m n e w g x z = go (among-cases (g x (later z)))
+    onward : (c d : ChessRetraction) (m n : List ChessRetraction) → c ≡ d → Below (place c) (map place m) → ((x : ChessRetraction) → In x (c ∷ m) → In x (d ∷ n)) → (x : ChessRetraction) → In x m → In x n
+    onward c d m n e w g x z = go (in-cases (g x (there z)))
       where
-        go : (x ≡ d) ⊎ Among x n → Among x n
+        go : (x ≡ d) ⊎ In x n → In x n
         go (inl y) = absurd (omega (arith, below-at (place c) x m w z, ap place (y ∙ sym e)))
         go (inr y) = y
 
-    tails : (x : ChessRetraction) → Among x l ↔ Among x k
+    tails : (x : ChessRetraction) → In x l ↔ In x k
     tails x = (onward r q l k heads (a .0) (λ y. f y .0) x, onward q r k l (sym heads) (b .0) (λ y. f y .1) x)
 
 pub one-list : (b : RetractableBoard) (l k : List ChessRetraction) → IsStrictList b l → IsStrictList b k → l ≡ k

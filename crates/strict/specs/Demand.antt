@@ -8,14 +8,14 @@ use Rattle.laws.specs.declared.ChessRetraction.{ChessRetraction}
 use Rattle.laws.specs.Positions.{Pos}
 use Rattle.laws.specs.Retractions.{packed}
 use Rattle.laws.specs.Strictness.{Gives}
-use Rattle.laws.specs.StrictLists.{place, placed, strictPlaces, Ascending}
+use Rattle.laws.specs.StrictLists.{place, retractionAt, strictPlaces, Ascending, In}
 use Rattle.laws.specs.Boards.{Shaped}
-use Rattle.accept.specs.declared.Verdict.the-variants.{Accepted}
-use Rattle.accept.specs.Said.{firstFailing, Said, numberSaid, told, refusal, behind, Writes}
+use Rattle.refusal.specs.declared.Verdict.the-variants.{Accepted}
+use Rattle.refusal.specs.Said.{firstFailing, Said, numberSaid, told, refusal, behind, Writes}
 use Rattle.board.specs.declared.RetractableBoard.{RetractableBoard}
 use Rattle.board.specs.Gate.{posOn, toLaws, gateOf, boardTests}
-use Rattle.listing.specs.declared.Listed.{Listed}
-use Rattle.listing.specs.Listing.{listedSays}
+use Rattle.slots.specs.declared.Listed.{Listed}
+use Rattle.slots.specs.Slots.{listedSays}
 use Rattle.strict.specs.declared.Counted.{Counted}
 use Rattle.strict.specs.declared.Counted.the-variants.{Count, Refused as notCounted}
 use Rattle.strict.specs.declared.LastMove.{LastMove}
@@ -26,14 +26,9 @@ use Rattle.strict.specs.declared.LastMove.the-variants.{Exists, NoLastMo
 abbrev pub Past : RetractableBoard → ChessRetraction → Type 0
 Past b r = (e : RetractableBoard) × (k : ℕ) × Shaped (toLaws e) × (gateOf e ≡ Accepted) × Gives (posOn e) (posOn b) r k
 
--- r is in the list
-pub data Among (r : ChessRetraction) : List ChessRetraction → Type 0 where
-  first : {l : List ChessRetraction} → Among r (r ∷ l)
-  later : {q : ChessRetraction} {l : List ChessRetraction} → Among r l → Among r (q ∷ l)
-
 -- "it holds a retraction, once and in a stated order, exactly when" it has a past; "Order: source, target, uncaptured, un-promotion"
 pub record IsStrictList (b : RetractableBoard) (l : List ChessRetraction) : Type 0 where
-  pub members : (r : ChessRetraction) → Among r l ↔ Past b r
+  pub members : (r : ChessRetraction) → In r l ↔ Past b r
   pub order : Ascending (map place l)
 
 -- "This list .. go to lent 16-bit slots, packed, with the length; slots beyond keep their numbers"; 1 to 7, then "strict list .. 13"
@@ -66,4 +61,4 @@ pub record Answers (b : RetractableBoard) (r : LastMove) : Type 0 where
 
 -- the Laws' strict list as retractions
 unfoldable pub strictMoves : Pos → List ChessRetraction
-strictMoves p = map placed (strictPlaces p)
+strictMoves p = map retractionAt (strictPlaces p)

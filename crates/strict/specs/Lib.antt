@@ -1,2 +1,2 @@
 pub mod Demand
-pub mod Searching
+pub mod inner

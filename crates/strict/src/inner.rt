@@ -1,24 +1,20 @@
 // The strict places of an accepted position, in order. `t` is the table of squares between, lent.
 use board::RetractableBoard;
 use laws::ChessRetraction;
-use listing::Listed;
-use placing::Position;
+use laws::Position;
+use slots::Listed;
 ghost use mathlib.Core.Path.{_≡_};
-ghost use mathlib.Core.List.{[], map};
 ghost use Prim.Native.Nat.{_<_, _≤_};
 ghost use lib.ListN.{length};
 ghost use Rattle.geometry.specs.Lines.{IsBetween};
-ghost use Rattle.laws.specs.Retractions.{packed};
-ghost use Rattle.laws.specs.StrictLists.{placed};
-ghost use Rattle.accept.specs.declared.Verdict.the-variants.{Accepted};
-ghost use Rattle.accept.specs.Said.{Writes};
-ghost use Rattle.placing.specs.Placed.{posAt};
-ghost use Rattle.board.specs.Gate.{gateOf};
-ghost use Rattle.board.specs.Moving.{placedOn};
-ghost use Rattle.strictness.specs.Strictly.{Today};
-ghost use Rattle.listing.specs.Listing.{fillFrom, listedSays};
-ghost use Rattle.strict.specs.Searching.{testOf, Looks, Next};
-ghost use Rattle.strict.specs.Demand.{strictMoves};
+ghost use Rattle.laws.specs.StrictLists.{retractionAt};
+ghost use Rattle.refusal.specs.declared.Verdict.the-variants.{Accepted};
+ghost use Rattle.laws.specs.Boards.{posAt};
+ghost use Rattle.board.specs.Gate.{positionOn, gateOf};
+ghost use Rattle.strict_test.specs.inner.Strictly.{Today};
+ghost use Rattle.slots.specs.Slots.{fillFrom};
+ghost use Rattle.strict.specs.inner.Searching.{testOf, Looks, Next};
+ghost use Rattle.strict.specs.Demand.{strictMoves, Lists};
 
 // 64 sources, 64 targets, 6 uncaptured men, 2 marks; those of one source, and those of one source and target.
 pub const PLACES: usize = 49152;
@@ -30,15 +26,15 @@ const OF_A_PAIR: usize = 12;
 // The position of a board that its gate let pass.
 pub fn today(b: RetractableBoard) -> Position
     requires { ⌜ gateOf b ≡ Accepted ⌝ }
-    ensures { λ p. ⌜ (p ≡ placedOn b) × Today p ⌝ }
+    ensures { λ p. ⌜ (p ≡ positionOn b) × Today p ⌝ }
 {
-    board::inner::moving::placed(b)
+    board::inner::position_of(b)
 }
 
 // The retraction at a place.
 fn candidate(i: usize) -> ChessRetraction
     requires { ⌜ i < 49152 ⌝ }
-    ensures { λ r. ⌜ r ≡ placed i ⌝ }
+    ensures { λ r. ⌜ r ≡ retractionAt i ⌝ }
 {
     ChessRetraction {
         source: (i / OF_A_SOURCE) as u8,
@@ -60,10 +56,10 @@ fn look(t: &[u64; 4096], p: Position, i: usize) -> usize
     if !unmake::inner::target_ok(p, r) {
         return (i / OF_A_PAIR + 1) * OF_A_PAIR;
     }
-    if !strictness::inner::coming::can_come(t, p, r) {
+    if !strict_test::inner::coming::can_come(t, p, r) {
         return (i / OF_A_PAIR + 1) * OF_A_PAIR;
     }
-    if strictness::inner::is_strict(t, p, r) {
+    if strict_test::inner::is_strict(t, p, r) {
         return i;
     }
     i + 1
@@ -120,11 +116,12 @@ fn fill(t: &[u64; 4096], p: Position, slots: &mut [u16])
     }
 }
 
-// Nothing is written before the room is known.
-pub fn list(t: &[u64; 4096], p: Position, slots: &mut [u16]) -> Listed
-    requires { ⌜ IsBetween (now t) × Today p ⌝ }
-    ensures { λ r. ⌜ Writes [] (map packed (strictMoves (posAt p))) (now (slots .entry)) (listedSays r) (now (slots .exit)) ⌝ }
+// The strict retractions of a board that its gate let pass, into slots: refusal 13. Nothing is written before the room is known.
+pub fn list(t: &[u64; 4096], b: RetractableBoard, slots: &mut [u16]) -> Listed
+    requires { ⌜ IsBetween (now t) × (gateOf b ≡ Accepted) ⌝ }
+    ensures { λ r. ⌜ Lists b (now (slots .entry)) r (now (slots .exit)) ⌝ }
 {
+    let p = today(b);
     let n = count(t, p);
     if n > slots.len() {
         return Listed::Room(n);

@@ -1,8 +1,8 @@
 // The strict list of a board: demand 3.
-use accept::Refusal;
-use accept::Verdict;
 use board::RetractableBoard;
-use listing::Listed;
+use refusal::Refusal;
+use refusal::Verdict;
+use slots::Listed;
 ghost use Rattle.strict.specs.Demand.{Lists, Counts, Answers};
 
 pub mod inner; // inner.rt: the strict places of a position in order, counted and written
@@ -27,10 +27,7 @@ pub fn strict_into(b: RetractableBoard, slots: &mut [u16]) -> Listed
     let v = board::inner::gate(&t, b);
     match v {
         Verdict::Refused(why) => Listed::Refused(why),
-        Verdict::Accepted => {
-            let p = inner::today(b);
-            inner::list(&t, p, slots)
-        }
+        Verdict::Accepted => inner::list(&t, b, slots),
     }
 }
 

@@ -7,7 +7,7 @@ use Rattle.squares.specs.Tests.{_and_, _or_}
 use Rattle.squares.specs.Squares.{rank, has, upTo, setOf, only, allTo, overOne, underOne, leftOfOne, rightOfOne}
 use Rattle.geometry.specs.declared.Color.{Color}
 use Rattle.geometry.specs.declared.Color.the-variants.{White, Black}
-use Rattle.geometry.specs.Colors.{aheadOfOne, secondRank}
+use Rattle.geometry.specs.Colors.{ownRank, aheadOfOne}
 use Rattle.geometry.specs.Steps.{knightStep, kingStep, pawnStep, pawnDouble, pawnTakes}
 use Rattle.squares.proofs.Comprehension.{and-setOf, or-setOf}
 use Rattle.squares.proofs.Every.{number-law}
@@ -42,7 +42,7 @@ step-is Black = number-law 64 (λ sq. setOf (aheadOfOne Black (only sq))) (λ sq
 
 -- the square itself, where it stands on c's second rank
 starting : Color → ℕ → ℕ
-starting c sq = setOf (λ k. eqb k sq and eqb (rank k) (secondRank c))
+starting c sq = setOf (λ k. eqb k sq and eqb (rank k) (ownRank c 1))
 
 twice-is : (c : Color) (sq : ℕ) → sq < 64 → setOf (aheadOfOne c (setOf (aheadOfOne c (starting c sq)))) ≡ setOf (pawnDouble c sq)
 unfolding allTo upTo has pawnDouble starting _and_ _or_
@@ -50,10 +50,10 @@ twice-is White = number-law 64 (λ sq. setOf (aheadOfOne White (setOf (aheadOfOn
 twice-is Black = number-law 64 (λ sq. setOf (aheadOfOne Black (setOf (aheadOfOne Black (starting Black sq))))) (λ sq. setOf (pawnDouble Black sq)) refl
 
 pub double-is : (c : Color) (sq : ℕ) → sq < 64
-    → setOf (aheadOfOne c (setOf (aheadOfOne c (bitAnd (only sq) (setOf (λ k. eqb (rank k) (secondRank c))))))) ≡ setOf (pawnDouble c sq)
+    → setOf (aheadOfOne c (setOf (aheadOfOne c (bitAnd (only sq) (setOf (λ k. eqb (rank k) (ownRank c 1))))))) ≡ setOf (pawnDouble c sq)
 unfolding starting
 double-is c sq h =
-    ap (λ (s : ℕ). setOf (aheadOfOne c (setOf (aheadOfOne c s)))) (and-setOf (λ k. eqb k sq) (λ k. eqb (rank k) (secondRank c))) ∙ twice-is c sq h
+    ap (λ (s : ℕ). setOf (aheadOfOne c (setOf (aheadOfOne c s)))) (and-setOf (λ k. eqb k sq) (λ k. eqb (rank k) (ownRank c 1))) ∙ twice-is c sq h
 
 -- both squares beside the one ahead
 diagonally : Color → ℕ → ℕ

@@ -3,7 +3,7 @@ use geometry::Color;
 ghost use mathlib.Core.Path.{_≡_};
 ghost use Prim.Native.Nat.{_<_};
 ghost use Rattle.squares.specs.Squares.{setOf};
-ghost use Rattle.geometry.specs.Colors.{aheadOfOne, secondRank};
+ghost use Rattle.geometry.specs.Colors.{aheadOfOne};
 ghost use Rattle.geometry.specs.Lines.{IsBetween, betweenOf, free, clear};
 ghost use Rattle.geometry.specs.Steps.{knightStep, kingStep, pawnStep, pawnDouble, pawnTakes};
 
@@ -62,21 +62,12 @@ pub fn pawn_step(color: Color, sq: u8) -> u64
     forward(color, squares::bit(sq))
 }
 
-fn second_rank(color: Color) -> u8
-    ensures { λ r. ⌜ r ≡ secondRank color ⌝ }
-{
-    match color {
-        Color::White => 1,
-        Color::Black => 6,
-    }
-}
-
 // The square two ahead of a pawn on its second rank.
 pub fn pawn_double(color: Color, sq: u8) -> u64
     requires { ⌜ sq < 64 ⌝ }
     ensures { λ r. ⌜ r ≡ setOf (pawnDouble color sq) ⌝ }
 {
-    let start = squares::bit(sq) & squares::get_rank(second_rank(color));
+    let start = squares::bit(sq) & squares::get_rank(geometry::inner::own_rank(color, 1));
     forward(color, forward(color, start))
 }
 

@@ -9,10 +9,10 @@ use lib.Dec.{ltb}
 use lib.ListN.{length, getD, take, drop, set}
 use lib.Seq.{drop-cons, take-suc, ext-getD, getD-take, length-take-le, set-at, append-snoc}
 use borrow.Author.Tests.{lt-ltb, le-ltb, ltb-false}
-use Rattle.accept.specs.Said.{Writes}
+use Rattle.refusal.specs.Said.{Writes}
 use Rattle.text.specs.declared.Copied.the-variants.{Count, Room}
-use Rattle.text.specs.Copies.{copiedSays, SameAs}
-use Rattle.accept.proofs.Writing.{writes-roomless, writes-whole}
+use Rattle.text.specs.inner.Copies.{copiedSays, SameAs}
+use Rattle.refusal.proofs.Writing.{writes-roomless, writes-whole}
 
 -- one more byte is copied into the front of o
 pub copy-more : (b o : List ℕ) (i : ℕ) → i < length b → i < length o → set (take i b ++ drop i o) i (getD b i 0) ≡ take (i + 1) b ++ drop (i + 1) o

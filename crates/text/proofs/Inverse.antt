@@ -8,32 +8,33 @@ use lib.Dec.{eqb}
 use lib.ListN.{length}
 use Rattle.laws.specs.declared.EnPassantFlag.the-variants.{Any, Some, None}
 use Rattle.laws.specs.Men.{Men}
-use Rattle.laws.specs.Boards.{menAt, Clean, menOk, kindSets, colorSets}
-use Rattle.placement.specs.Letters.{menOf}
+use Rattle.laws.specs.Boards.{menIn, Clean, menOk, kindSets, colorSets}
+use Rattle.men_field.specs.inner.Letters.{menByNumbers}
 use Rattle.text.specs.declared.Scan.{Scan}
-use Rattle.text.specs.declared.Verdict.{Verdict}
-use Rattle.text.specs.declared.Verdict.the-variants.{InForm, OutOfForm}
+use Rattle.text.specs.declared.Form.{Form}
+use Rattle.text.specs.declared.Form.the-variants.{InForm, OutOfForm}
 use Rattle.text.specs.declared.Raw.{Raw}
-use Rattle.text.specs.Form.{StateFits, Fields, printed, Says, fieldsOf, AnswersBy, Answers}
-use Rattle.text.specs.Copies.{SameAs}
-use Rattle.text.specs.Reading.{startOf, runOf, flagOf, rawOf, noRaw}
+use Rattle.text.specs.Form.{StateFits, printed, Says, AnswersBy, Answers}
+use Rattle.laws.specs.declared.Position.{Position}
+use Rattle.text.specs.inner.Copies.{SameAs}
+use Rattle.text.specs.inner.Reading.{startOf, runOf, flagOf, rawOf, noRaw}
 use Rattle.laws.proofs.ManSets.{men-shown, men-on, men-ok}
-use Rattle.placement.proofs.Belonging.{men-of-on}
+use Rattle.men_field.proofs.Belonging.{men-of-on}
 use Rattle.text.proofs.Tails.{print-short}
 use Rattle.text.proofs.Bytes.{same-true, same-false}
 use Rattle.text.proofs.Walks.{men-back, turn-back, rights-back, flag-back, read-text}
 use Rattle.laws.proofs.ManSets as sets
 
-abbrev readAs : List ℕ → Fields
-readAs t = fieldsOf (rawOf (runOf startOf t))
+abbrev readAs : List ℕ → Position
+readAs t = rawOf (runOf startOf t) .position
 
 -- the walk over the text of some fields reads those fields
-read-print : (f : Fields) → Clean (f .pieces) (f .colors) → StateFits (f .passant) → readAs (printed f) ≡ f
+read-print : (f : Position) → Clean (f .pieces) (f .colors) → StateFits (f .passant) → readAs (printed f) ≡ f
 read-print f c h =
-    let m = menAt (f .pieces) (f .colors) in
+    let m = menIn f in
     let r = rights-back (f .white) (f .black) in
-    let b = men-back (menAt (f .pieces) (f .colors)) (men-on (f .pieces) (f .colors)) in
-    ap (λ (s : Scan). fieldsOf (rawOf s)) (read-text m (f .turn) (f .white) (f .black) (f .passant) h)
+    let b = men-back (menIn f) (men-on (f .pieces) (f .colors)) in
+    ap (λ (s : Scan). rawOf s .position) (read-text m (f .turn) (f .white) (f .black) (f .passant) h)
     ∙ (λ i. record {
       pieces = (ap kindSets b ∙ sym (c .kinds)) i;
       colors = (ap colorSets b ∙ sym (c .colours)) i;
@@ -44,7 +45,7 @@ read-print f c h =
     })
 
 -- no text says two things
-pub says-one : (t : List ℕ) (f g : Fields) → Says f t → Says g t → f ≡ g
+pub says-one : (t : List ℕ) (f g : Position) → Says f t → Says g t → f ≡ g
 says-one t f g p q =
     sym (read-print f (p .clean) (p .square)) ∙ ap readAs (p .text ∙ sym (q .text)) ∙ read-print g (q .clean) (q .square)
 
@@ -61,70 +62,52 @@ read-square n = go (eqb n 64) (eqb n 65)
     go false false = omega arith
 
 -- what the reader answers: r is what the walk read, l its text, b whether that is t
-module _ (t : List ℕ) (r : Raw) (l : List ℕ) (b : Bool) (e : r ≡ rawOf (runOf startOf t)) (p : l ≡ printed (fieldsOf r)) (h : SameAs l t b) where
+module _ (t : List ℕ) (r : Raw) (l : List ℕ) (b : Bool) (e : r ≡ rawOf (runOf startOf t)) (p : l ≡ printed (r .position)) (h : SameAs l t b) where
   pub in-form : b ≡ true → Answers t r
   in-form q =
-      let s : Says (fieldsOf r) t =
+      let s : Says (r .position) t =
       record {
-        clean = subst (λ (x : Raw). Clean (x .pieces) (x .colors)) (sym e) (read-clean (menOf (runOf startOf t .men)) (men-of-on (runOf startOf t .men)));
-        square = subst (λ (x : Raw). StateFits (x .passant)) (sym e) (read-square (runOf startOf t .square));
+        clean = subst (λ (x : Raw). Clean (x .position .pieces) (x .position .colors)) (sym e) (read-clean (menByNumbers (runOf startOf t .men)) (men-of-on (runOf startOf t .men)));
+        square = subst (λ (x : Raw). StateFits (x .position .passant)) (sym e) (read-square (runOf startOf t .square));
         text = sym p ∙ same-true l t b q h;
       } in
-      subst (λ (v : Verdict). AnswersBy t (fieldsOf r) v) (sym (ap (λ (x : Raw). x .verdict) e)) s
+      subst (λ (v : Form). AnswersBy t (r .position) v) (sym (ap (λ (x : Raw). x .form) e)) s
 
-  pub out-of-form : b ≡ false → (g : Fields) → Says g t → ⊥
+  pub out-of-form : b ≡ false → (g : Position) → Says g t → ⊥
   out-of-form q g s =
-      let z : fieldsOf r ≡ g = ap fieldsOf e ∙ ap readAs (sym (s .text)) ∙ read-print g (s .clean) (s .square) in
+      let z : r .position ≡ g = ap (λ (x : Raw). x .position) e ∙ ap readAs (sym (s .text)) ∙ read-print g (s .clean) (s .square) in
       same-false l t b q h (p ∙ ap printed z ∙ s .text)
 
-pub no-answer : (t : List ℕ) (r : Raw) → r ≡ noRaw → ((g : Fields) → Says g t → ⊥) → Answers t r
+pub no-answer : (t : List ℕ) (r : Raw) → r ≡ noRaw → ((g : Position) → Says g t → ⊥) → Answers t r
 no-answer t r e n = subst (λ (x : Raw). Answers t x) (sym e) (refl, n)
 
 -- any two answers that the contract allows are the same
 pub one-answer : (t : List ℕ) (a b : Raw) → Answers t a → Answers t b → a ≡ b
 one-answer t a b p q =
-    let z = go (a .verdict) (b .verdict) p q in
-    λ i. record {
-      verdict = z .1 i;
-      pieces = z .0 i .pieces;
-      colors = z .0 i .colors;
-      turn = z .0 i .turn;
-      white = z .0 i .white;
-      black = z .0 i .black;
-      passant = z .0 i .passant;
-    }
+    let z = go (a .form) (b .form) p q in λ i. record { form = z .1 i; position = z .0 i }
   where
-    go : (u v : Verdict) → AnswersBy t (fieldsOf a) u → AnswersBy t (fieldsOf b) v → (fieldsOf a ≡ fieldsOf b) × (u ≡ v)
-    go InForm InForm f g = (says-one t (fieldsOf a) (fieldsOf b) f g, refl)
-    go InForm OutOfForm f g = absurd (g .1 (fieldsOf a) f)
-    go OutOfForm InForm f g = absurd (f .1 (fieldsOf b) g)
+    go : (u v : Form) → AnswersBy t (a .position) u → AnswersBy t (b .position) v → (a .position ≡ b .position) × (u ≡ v)
+    go InForm InForm f g = (says-one t (a .position) (b .position) f g, refl)
+    go InForm OutOfForm f g = absurd (g .1 (a .position) f)
+    go OutOfForm InForm f g = absurd (f .1 (b .position) g)
     go OutOfForm OutOfForm f g = (f .0 ∙ sym (g .0), refl)
 
-abbrev inForm : Fields → Raw
-inForm f =
-    record {
-      verdict = InForm;
-      pieces = f .pieces;
-      colors = f .colors;
-      turn = f .turn;
-      white = f .white;
-      black = f .black;
-      passant = f .passant;
-    }
+abbrev inForm : Position → Raw
+inForm f = record { form = InForm; position = f }
 
 -- read after print gives the fields back
-pub read-printed : (f : Fields) → Clean (f .pieces) (f .colors) → StateFits (f .passant) → (r : Raw) → Answers (printed f) r → r ≡ inForm f
+pub read-printed : (f : Position) → Clean (f .pieces) (f .colors) → StateFits (f .passant) → (r : Raw) → Answers (printed f) r → r ≡ inForm f
 read-printed f c h r a = one-answer (printed f) r (inForm f) a (record { clean = c; square = h; text = refl })
 
 -- print after read gives the bytes
-pub printed-read : (t : List ℕ) (r : Raw) → Answers t r → r .verdict ≡ InForm → printed (fieldsOf r) ≡ t
-printed-read t r a e = (subst (λ (v : Verdict). AnswersBy t (fieldsOf r) v) e a) .text
+pub printed-read : (t : List ℕ) (r : Raw) → Answers t r → r .form ≡ InForm → printed (r .position) ≡ t
+printed-read t r a e = (subst (λ (v : Form). AnswersBy t (r .position) v) e a) .text
 
 -- "At most 81 bytes"
-pub says-short : (t : List ℕ) (f : Fields) → Says f t → length t ≤ 81
-says-short t f s = subst (λ (x : List ℕ). length x ≤ 81) (s .text) (print-short (menAt (f .pieces) (f .colors)) (f .turn) (f .white) (f .black) (f .passant))
+pub says-short : (t : List ℕ) (f : Position) → Says f t → length t ≤ 81
+says-short t f s = subst (λ (x : List ℕ). length x ≤ 81) (s .text) (print-short (menIn f) (f .turn) (f .white) (f .black) (f .passant))
 
 -- a text in form never meets refusal 1
-pub says-men-ok : (t : List ℕ) (f : Fields) → Says f t → menOk (f .pieces) (f .colors) ≡ true
+pub says-men-ok : (t : List ℕ) (f : Position) → Says f t → menOk (f .pieces) (f .colors) ≡ true
 says-men-ok t f s =
-    ap₂ menOk (s .clean .kinds) (s .clean .colours) ∙ men-ok (menAt (f .pieces) (f .colors))
+    ap₂ menOk (s .clean .kinds) (s .clean .colours) ∙ men-ok (menIn f)

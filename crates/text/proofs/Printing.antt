@@ -6,19 +6,19 @@ use Prim.Native.Nat.{ℕ}
 use lib.Dec.{eqb, leb}
 use lib.ListN.{length}
 use Rattle.squares.specs.Tests.{_and_}
-use Rattle.accept.specs.declared.Refusal.{Refusal}
-use Rattle.accept.specs.declared.Verdict.{Verdict}
-use Rattle.accept.specs.declared.Verdict.the-variants.{Accepted, Refused as refused}
-use Rattle.accept.specs.Said.{firstFailing, Said, numberSaid, Writes}
+use Rattle.refusal.specs.declared.Refusal.{Refusal}
+use Rattle.refusal.specs.declared.Verdict.{Verdict}
+use Rattle.refusal.specs.declared.Verdict.the-variants.{Accepted, Refused as refused}
+use Rattle.refusal.specs.Said.{firstFailing, Said, numberSaid, Writes}
 use Rattle.board.specs.declared.RetractableBoard.{RetractableBoard}
 use Rattle.board.specs.Gate.{gateOf, boardTests}
 use Rattle.text.specs.declared.Copied.{Copied}
 use Rattle.text.specs.declared.Printed.{Printed}
 use Rattle.text.specs.declared.Printed.the-variants.{Count, Room, Refused}
-use Rattle.text.specs.Copies.{copiedSays}
+use Rattle.text.specs.inner.Copies.{copiedSays}
 use Rattle.text.specs.Entries.{textOn, printedSays}
-use Rattle.accept.proofs.Saying.{number-one}
-use Rattle.accept.proofs.Writing.{no-value, no-room, writes-behind, writes-refused, writes-one, Written, Roomless, Failed, tells-count, tells-room, tells-refused}
+use Rattle.refusal.proofs.Saying.{number-one}
+use Rattle.refusal.proofs.Writing.{no-value, no-room, writes-behind, writes-refused, writes-one, Written, Roomless, Failed, tells-count, tells-room, tells-refused}
 use Rattle.board.proofs.Numbers.{gate-refuses, gate-passes, room-seven}
 
 module _ (b : RetractableBoard) where
@@ -30,11 +30,8 @@ module _ (b : RetractableBoard) where
     pub not-printed : {o : List ℕ} (why : Refusal) → v ≡ refused why → Prints o (Refused why) o
     not-printed why h = writes-refused why (gate-refuses b v e why h)
 
-    pub printed-so : {o after : List ℕ} (t : List ℕ) (c : Copied) (r : Printed) → v ≡ Accepted → t ≡ textOn b → Writes [] t o (copiedSays c) after → printedSays r ≡ copiedSays c
-        → Prints o r after
-    printed-so {o} {after} t c r h w k d =
-        writes-behind (gate-passes b v e h)
-        (subst (λ (x : Said). Writes [] (textOn b) o x after) (sym d) (subst (λ (s : List ℕ). Writes [] s o (copiedSays c) after) w k))
+    pub printed-so : {o after : List ℕ} (c : Copied) (r : Printed) → v ≡ Accepted → Writes [] (textOn b) o (copiedSays c) after → printedSays r ≡ copiedSays c → Prints o r after
+    printed-so {o} {after} c r h k d = writes-behind (gate-passes b v e h) (subst (λ (x : Said). Writes [] (textOn b) o x after) (sym d) k)
 
   -- what each answer tells
   abbrev pub Tells : List ℕ → Printed → List ℕ → Type 0

@@ -7,140 +7,113 @@ use Prim.Native.Nat.{ℕ, _<_}
 use native.Mathlib.Omega.{arith}
 use lib.ListN.{length}
 use lib.Dec.{eqb}
-use borrow.Author.Tests.{ltb-true, eq-eqb, eqb-false}
+use borrow.Author.Tests.{ltb-true, eqb-false}
 use Rattle.squares.specs.Tests.{_and_}
 use Rattle.geometry.specs.declared.Color.{Color}
 use Rattle.laws.specs.declared.EnPassantFlag.{EnPassantFlag}
 use Rattle.laws.specs.declared.EnPassantFlag.the-variants.{Any, Some, None}
 use Rattle.laws.specs.Men.{Men}
-use Rattle.laws.specs.Attacks.{unionOf, checkersOf, pinsOf}
-use Rattle.laws.specs.Positions.{Rights, rightsOf}
 use Rattle.laws.specs.Acceptance.{kingsOk, pawnsOk, rightsOk, stateOk, quiet}
-use Rattle.laws.specs.Boards.{menAt, menOk}
-use Rattle.accept.specs.declared.Refusal.the-variants.{Men as men, Kings as kings, Pawn as pawn, Rights as rights, Passant as passant, Check as check, Stale, Text}
-use Rattle.accept.specs.declared.Verdict.{Verdict}
-use Rattle.accept.specs.declared.Verdict.the-variants.{Accepted, Refused}
-use Rattle.accept.specs.Verdicts.{verdictNumber, unless, andThen, judgedOf}
-use Rattle.accept.specs.Said.{_else_, firstFailing, rawTests, Said, Writes}
+use Rattle.laws.specs.Boards.{menOk, menIn, posAt}
+use Rattle.refusal.specs.declared.Refusal.the-variants.{Men as men, Kings as kings, Pawn as pawn, Rights as rights, Passant as passant, Check as check, Stale, Text}
+use Rattle.refusal.specs.declared.Verdict.{Verdict}
+use Rattle.refusal.specs.declared.Verdict.the-variants.{Accepted, Refused}
+use Rattle.refusal.specs.Refusals.{verdictNumber, unless, andThen}
+use Rattle.accept.specs.Verdicts.{judgedOf, rawTests}
+use Rattle.refusal.specs.Said.{_else_, firstFailing, Said, Writes}
 use Rattle.board.specs.declared.RetractableBoard.{RetractableBoard}
 use Rattle.board.specs.declared.Boarded.{Boarded}
-use Rattle.board.specs.Gate.{menOn, freshBy, gateBy, gateOf, boardTests, noBoard, boardedBy}
-use Rattle.board.specs.Answers.{workedOf, newOf}
+use Rattle.board.specs.Gate.{positionOn, menOn, gateOf, boardTests, noBoard, boardedBy}
+use Rattle.board.specs.Answers.{workedOf}
+use Rattle.board.specs.inner.Gates.{newOf}
 use Rattle.board.specs.Said.{Boards}
-use Rattle.text.specs.declared.Verdict.{Verdict as Form}
-use Rattle.text.specs.declared.Verdict.the-variants.{InForm, OutOfForm}
+use Rattle.text.specs.declared.Form.{Form}
+use Rattle.text.specs.declared.Form.the-variants.{InForm, OutOfForm}
 use Rattle.text.specs.declared.Raw.{Raw}
-use Rattle.text.specs.Form.{Fields, Says, StateFits, fieldsOf, AnswersBy, Answers}
-use Rattle.text.specs.Entries.{fieldTests, fieldBoard, Reads, said, unsaid, textOn}
-use Rattle.squares.proofs.Testing.{both, left, agree, agree-eq}
+use Rattle.laws.specs.declared.Position.{Position}
+use Rattle.text.specs.Form.{Says, StateFits, AnswersBy, Answers}
+use Rattle.text.specs.Entries.{Reads, said, unsaid, textOn}
+use Rattle.squares.proofs.Testing.{left, agree, agree-eq}
 use Rattle.laws.proofs.Cases.{by-cases}
 use Rattle.laws.proofs.Cleaning.{Bounded}
-use Rattle.accept.proofs.Numbered.{judged-passes}
-use Rattle.accept.proofs.Saying.{verdict-one}
-use Rattle.accept.proofs.Writing.{writes-passed}
-use Rattle.board.proofs.Saying.{boards-one}
-use Rattle.board.proofs.Passing.{new-is, judged-clean, gate-judged, gate-passed}
+use Rattle.accept.proofs.Numbered.{judged-passes, judged-number}
+use Rattle.refusal.proofs.Saying.{verdict-one}
+use Rattle.refusal.proofs.Writing.{writes-passed}
+use Rattle.board.proofs.Saying.{boards-by, boards-one}
+use Rattle.board.proofs.Passing.{new-is, gate-sound, gate-judged, worked-whole}
+use Rattle.board.proofs.Moving.{fresh-worked}
 use Rattle.board.proofs.Numbers.{gate-passes}
 use Rattle.text.proofs.Inverse.{says-one, says-short}
 
 -- any two answers to a text that the contract allows are the same
 pub read-one : (t : List ℕ) (a b : Boarded) → Reads t a → Reads t b → a ≡ b
-read-one t a b (said f s e) (said g u d) = boards-one a b (subst (λ (h : Fields). Boards (fieldTests h) (fieldBoard h) a) (says-one t f g s u) e) d
+read-one t a b (said f s e) (said g u d) = boards-one a b (subst (λ (h : Position). Boards (rawTests h) (workedOf h) a) (says-one t f g s u) e) d
 read-one t a b (said f s e) (unsaid n d m) = absurd (n f s)
 read-one t a b (unsaid n e k) (said f s d) = absurd (n f s)
 read-one t a b (unsaid n e k) (unsaid m d l) = λ i. record { verdict = verdict-one (a .verdict) (b .verdict) (e ∙ sym d) i; board = (k ∙ sym l) i }
 
--- the answer where a text says f
-abbrev pub boardSaid : Fields → Boarded
-boardSaid f = newOf (f .pieces) (f .colors) (f .turn) (f .white) (f .black) (f .passant)
-
-said-is : (f : Fields) (r : Boarded) → Boards (fieldTests f) (fieldBoard f) r → r ≡ boardSaid f
-said-is f = new-is (f .pieces) (f .colors) (f .turn) (f .white) (f .black) (f .passant)
-
-pub read-said : (t : List ℕ) (r : Boarded) (f : Fields) → Reads t r → Says f t → r ≡ boardSaid f
-read-said t r f (said g s e) u = said-is f r (subst (λ (h : Fields). Boards (fieldTests h) (fieldBoard h) r) (says-one t g f s u) e)
+pub read-said : (t : List ℕ) (r : Boarded) (f : Position) → Reads t r → Says f t → r ≡ newOf f
+read-said t r f (said g s e) u = new-is f r (subst (λ (h : Position). Boards (rawTests h) (workedOf h) r) (says-one t g f s u) e)
 read-said t r f (unsaid n e k) u = absurd (n f u)
 
 -- the answer of the reader of fields, taken to the board
-pub read-in : (t : List ℕ) (raw : Raw) (r : Boarded) → Answers t raw → raw .verdict ≡ InForm → Boards (fieldTests (fieldsOf raw)) (fieldBoard (fieldsOf raw)) r → Reads t r
-read-in t raw r a e h = said (fieldsOf raw) (subst (λ (v : Form). AnswersBy t (fieldsOf raw) v) e a) h
+pub read-in : (t : List ℕ) (raw : Raw) (r : Boarded) → Answers t raw → raw .form ≡ InForm → r ≡ newOf (raw .position) → Reads t r
+read-in t raw r a e h =
+    let p = raw .position in
+    said p (subst (λ (v : Form). AnswersBy t p v) e a) (subst (Boards (rawTests p) (workedOf p)) (sym h) (boards-by _ _ _ (judged-number p)))
 
-pub read-out : (t : List ℕ) (raw : Raw) (r : Boarded) → Answers t raw → raw .verdict ≡ OutOfForm → r ≡ boardedBy (Refused Text) noBoard → Reads t r
+pub read-out : (t : List ℕ) (raw : Raw) (r : Boarded) → Answers t raw → raw .form ≡ OutOfForm → r ≡ boardedBy (Refused Text) noBoard → Reads t r
 read-out t raw r a e h =
-    unsaid ((subst (λ (v : Form). AnswersBy t (fieldsOf raw) v) e a) .1) (ap (λ (x : Boarded). verdictNumber (x .verdict)) h) (ap (λ (x : Boarded). x .board) h)
+    unsaid ((subst (λ (v : Form). AnswersBy t (raw .position) v) e a) .1) (ap (λ (x : Boarded). verdictNumber (x .verdict)) h) (ap (λ (x : Boarded). x .board) h)
 
 -- 1 to 6 are never 14
-number-six : (p k : List ℕ) (c : Color) (ρ : Rights) (st : EnPassantFlag) → firstFailing (rawTests p k c ρ st) ≡ 14 → ⊥
+number-six : (p : Position) → firstFailing (rawTests p) ≡ 14 → ⊥
 unfolding firstFailing _and_
-number-six p k c ρ st =
-    eqb-false (firstFailing (rawTests p k c ρ st)) 14
+number-six p =
+    eqb-false (firstFailing (rawTests p)) 14
     (agree-eq _ _ (by-cases 6
     (λ a b d e f g. agree (eqb (firstFailing ((a else men) ∷ (b else kings) ∷ (d else pawn) ∷ (e else rights) ∷ (f else passant) ∷ (g else check) ∷ [])) 14) false) refl
-    (menOk p k) (kingsOk (menAt p k)) (pawnsOk (menAt p k)) (rightsOk (menAt p k) ρ) (stateOk (menAt p k) c st) (quiet (menAt p k) c)))
+    (menOk (p .pieces) (p .colors)) (kingsOk (menIn p)) (pawnsOk (menIn p)) (rightsOk (menIn p) (posAt p .rights)) (stateOk (menIn p) (p .turn) (p .passant)) (quiet (menIn p) (p .turn))))
 
 -- "14 TEXT: the text hasn't the form under Text": exactly then
-pub text-exactly : (t : List ℕ) (r : Boarded) → Reads t r → (verdictNumber (r .verdict) ≡ 14) ↔ ((f : Fields) → Says f t → ⊥)
+pub text-exactly : (t : List ℕ) (r : Boarded) → Reads t r → (verdictNumber (r .verdict) ≡ 14) ↔ ((f : Position) → Says f t → ⊥)
 text-exactly t r (said g s e) = (
-  (λ h. absurd (number-six (g .pieces) (g .colors) (g .turn) (rightsOf (g .white) (g .black)) (g .passant) (sym (e .number) ∙ h))),
+  (λ h. absurd (number-six g (sym (e .number) ∙ h))),
   (λ n. absurd (n g s)),
 )
 text-exactly t r (unsaid n e k) = ((λ _. n), (λ _. e))
-
--- an accepted board is worked out from its men
-worked-whole : (b : RetractableBoard) → gateOf b ≡ Accepted → workedOf (b .pieces) (b .colors) (b .turn) (b .white) (b .black) (b .passant) ≡ b
-worked-whole b h =
-    let p = gate-passed b h in
-    λ i. record {
-      pieces = b .pieces;
-      colors = b .colors;
-      combined = sym (p .union-is) i;
-      turn = b .turn;
-      white = b .white;
-      black = b .black;
-      pinned = sym (p .pins-are) i;
-      checkers = sym (p .checkers-are) i;
-      passant = b .passant;
-    }
 
 state-fits : (m : Men) (c : Color) (st : EnPassantFlag) → stateOk m c st ≡ true → StateFits st
 state-fits m c Any h = tt
 state-fits m c (Some q) h = ltb-true q 64 (left _ _ (left _ _ (left _ _ (left _ _ (left _ _ h)))))
 state-fits m c None h = tt
 
-abbrev fieldsOn : RetractableBoard → Fields
-fieldsOn b = record { pieces = b .pieces; colors = b .colors; turn = b .turn; white = b .white; black = b .black; passant = b .passant }
-
 -- read after print: the text of an accepted board is read as that board, all of it
 module _ (b : RetractableBoard) (six : length (b .pieces) ≡ 6) (two : length (b .colors) ≡ 2) (bp : Bounded (b .pieces)) (bc : Bounded (b .colors)) (h : gateOf b ≡ Accepted) where
-  text-said : Says (fieldsOn b) (textOn b)
+  text-said : Says (positionOn b) (textOn b)
   text-said = record {
-    clean = judged-clean (b .pieces) (b .colors) (b .turn) (rightsOf (b .white) (b .black)) (b .passant) six two bp bc (gate-judged b h) .0;
-    square = state-fits (menOn b) (b .turn) (b .passant) (judged-passes (b .pieces) (b .colors) (b .turn) (rightsOf (b .white) (b .black)) (b .passant) (gate-judged b h) .0 .state-pass);
+    clean = gate-sound b six two bp bc h .clean;
+    square = state-fits (menOn b) (b .turn) (b .passant) (judged-passes (positionOn b) (gate-judged b h) .0 .passes .state);
     text = refl;
   }
 
-  board-said : boardSaid (fieldsOn b) ≡ boardedBy Accepted b
-  board-said = ap (λ (v : Verdict). boardedBy v (fieldBoard (fieldsOn b))) (gate-judged b h) ∙ ap (boardedBy Accepted) (worked-whole b h)
+  board-said : newOf (positionOn b) ≡ boardedBy Accepted b
+  board-said = ap (λ (v : Verdict). boardedBy v (workedOf (positionOn b))) (gate-judged b h) ∙ ap (boardedBy Accepted) (worked-whole b h)
 
   pub read-after-print : (r : Boarded) → Reads (textOn b) r → r ≡ boardedBy Accepted b
-  read-after-print r a = read-said (textOn b) r (fieldsOn b) a text-said ∙ board-said
+  read-after-print r a = read-said (textOn b) r (positionOn b) a text-said ∙ board-said
 
 -- men that pass 1 to 6, worked out, pass 7
-fresh-worked : (m : Men) (c : Color) → freshBy m c (unionOf m) (checkersOf m c) (pinsOf m c) ≡ true
-unfolding freshBy
-fresh-worked m c = both (both (eq-eqb (unionOf m) (unionOf m) refl) (eq-eqb (checkersOf m c) (checkersOf m c) refl)) (eq-eqb (pinsOf m c) (pinsOf m c) refl)
-
-gate-worked : (f : Fields) → judgedOf (f .pieces) (f .colors) (f .turn) (rightsOf (f .white) (f .black)) (f .passant) ≡ Accepted
-    → gateOf (workedOf (f .pieces) (f .colors) (f .turn) (f .white) (f .black) (f .passant)) ≡ Accepted
-unfolding gateBy
-gate-worked f h = ap₂ (λ (v : Verdict) (t : Bool). andThen v (unless t Stale Accepted)) h (fresh-worked (menAt (f .pieces) (f .colors)) (f .turn))
+gate-worked : (f : Position) → judgedOf f ≡ Accepted → gateOf (workedOf f) ≡ Accepted
+unfolding gateOf
+gate-worked f h = ap₂ (λ (v : Verdict) (t : Bool). andThen v (unless t Stale Accepted)) h (fresh-worked f)
 
 -- a board that is read is accepted, and its text is the one that was read
 pub read-accepted : (t : List ℕ) (r : Boarded) → Reads t r → r .verdict ≡ Accepted → (gateOf (r .board) ≡ Accepted) × (textOn (r .board) ≡ t)
 read-accepted t r (said f s d) h =
-    let e = said-is f r d in
-    let j : judgedOf (f .pieces) (f .colors) (f .turn) (rightsOf (f .white) (f .black)) (f .passant) ≡ Accepted = sym (ap (λ (x : Boarded). x .verdict) e) ∙ h in
-    let w : r .board ≡ fieldBoard f = ap (λ (x : Boarded). x .board) (e ∙ ap (λ (v : Verdict). boardedBy v (fieldBoard f)) j) in
+    let e = new-is f r d in
+    let j : judgedOf f ≡ Accepted = sym (ap (λ (x : Boarded). x .verdict) e) ∙ h in
+    let w : r .board ≡ workedOf f = ap (λ (x : Boarded). x .board) (e ∙ ap (λ (v : Verdict). boardedBy v (workedOf f)) j) in
     (ap gateOf w ∙ gate-worked f j, ap textOn w ∙ s .text)
 read-accepted t r (unsaid n e k) h = absurd (omega (arith, sym e ∙ ap verdictNumber h))
 

@@ -10,11 +10,11 @@ use Rattle.laws.specs.declared.CastleRights.the-variants.{NoRights, KingSide, Q
 use Rattle.laws.specs.declared.EnPassantFlag.{EnPassantFlag}
 use Rattle.laws.specs.declared.EnPassantFlag.the-variants.{Any, Some, None}
 use Rattle.laws.specs.Men.{Men}
-use Rattle.placement.specs.declared.Line.{Line}
-use Rattle.placement.specs.Placement.{menText}
-use Rattle.placement.specs.Lines.{Added, Holds}
+use Rattle.men_field.specs.declared.Line.{Line}
+use Rattle.men_field.specs.Placement.{menText}
+use Rattle.men_field.specs.inner.Lines.{Added, Holds}
 use Rattle.text.specs.Form.{sideText, orDash, rightsText, stateText, tailText, printOf}
-use Rattle.placement.proofs.Adding.{added-both, men-short}
+use Rattle.men_field.proofs.Adding.{added-both, men-short}
 
 pub side-is : {l r : Line} (k q : ℕ) {x y : CastleRights} → x ≡ y → Added l (sideText k q y) r → Added l (sideText k q x) r
 side-is k q e a = rw e a

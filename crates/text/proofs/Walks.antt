@@ -20,17 +20,17 @@ use Rattle.laws.specs.declared.CastleRights.the-variants.{NoRights, KingSide, Q
 use Rattle.laws.specs.declared.EnPassantFlag.{EnPassantFlag}
 use Rattle.laws.specs.declared.EnPassantFlag.the-variants.{Any, Some, None}
 use Rattle.laws.specs.Men.{Man, empty, man, Men, manNumber, isEmpty}
-use Rattle.placement.specs.Placement.{letterOf, flushOf, runText, squaresFrom, rankText, ranksText, menText, byteOf}
-use Rattle.placement.specs.Letters.{numberOf, widthOf, placeOf, manOf, menOf}
+use Rattle.men_field.specs.Placement.{letterOf, flushOf, runText, squaresFrom, rankText, ranksText, menText, byteOf}
+use Rattle.men_field.specs.inner.Letters.{numberByLetter, widthOf, placeOf, manByNumber, menByNumbers}
 use Rattle.text.specs.declared.Scan.{Scan}
 use Rattle.text.specs.Form.{turnByte, rightsText, stateText, tailText, printOf, StateFits}
-use Rattle.text.specs.Reading.{rightOf, squareOf, withMan, stepMen, stepTail, stepOf, startOf, runOf, turnOf, sideOf, flagOf}
+use Rattle.text.specs.inner.Reading.{rightOf, squareOf, withMan, stepMen, stepTail, stepOf, startOf, runOf, turnOf, sideOf, flagOf}
 use Rattle.squares.proofs.Testing.{left, right, order}
 use Rattle.squares.proofs.Every.{all-at}
 use Rattle.laws.proofs.Cases.{by-men}
 use Rattle.laws.proofs.ManSets.{OnBoard}
-use Rattle.placement.proofs.Adding.{length-squares}
-use Rattle.placement.proofs.Belonging.{man-back}
+use Rattle.men_field.proofs.Adding.{length-squares}
+use Rattle.men_field.proofs.Belonging.{man-back}
 
 pub run-append : (a b : List ℕ) (s : Scan) → runOf s (a ++ b) ≡ runOf (runOf s a) b
 unfolding runOf
@@ -55,31 +55,31 @@ mid p = st (p ++ replicate (64 - length p) 0) (length p)
 -- a byte that is no space stands for w squares, the first of them the man of the number m
 record Is (b m w : ℕ) : Type 0 where
   other : eqb b 32 ≡ false
-  man : numberOf b ≡ m
+  man : numberByLetter b ≡ m
   wide : widthOf b ≡ w
 
 isB : ℕ → ℕ → ℕ → Bool
-isB b m w = eqb (numberOf b) m and eqb (widthOf b) w and leb 33 b
+isB b m w = eqb (numberByLetter b) m and eqb (widthOf b) w and leb 33 b
 
 is-of : (b m w : ℕ) → isB b m w ≡ true → Is b m w
 unfolding isB
 is-of b m w t =
     record {
       other = ne-eqb b 32 (λ e. omega (arith, leb-true 33 b (right _ _ t)));
-      man = eqb-true (numberOf b) m (left _ _ (left _ _ t));
+      man = eqb-true (numberByLetter b) m (left _ _ (left _ _ t));
       wide = eqb-true (widthOf b) w (right _ _ (left _ _ t));
     }
 
 is-letter : (c : Color) (k : Piece) → Is (letterOf c k) (manNumber (man c k)) 1
-unfolding isB numberOf widthOf _and_
+unfolding isB numberByLetter widthOf _and_
 is-letter c k = is-of _ _ _ (by-men (λ x. cond (isEmpty x) true (isB (byteOf x) (manNumber x) 1)) refl (man c k))
 
 is-digit : (n : ℕ) → n < 8 → Is (48 + suc n) 0 (suc n)
-unfolding isB numberOf widthOf allTo _and_
+unfolding isB numberByLetter widthOf allTo _and_
 is-digit n h = is-of (48 + suc n) 0 (suc n) (all-at 8 (λ k. isB (48 + suc k) 0 (suc k)) refl n h)
 
 is-slash : Is 47 0 0
-unfolding isB numberOf widthOf _and_
+unfolding isB numberByLetter widthOf _and_
 is-slash = is-of 47 0 0 refl
 
 step-is : (p : List ℕ) {b m w : ℕ} → length p < 64 → Is b m w → stepOf (mid p) b ≡ withMan (mid p) m w
@@ -233,8 +233,8 @@ row-at m (suc n) r f h k =
         ∙ squares-at m 8 (8 * n) f k
         ∙ ap (λ (i : ℕ). manNumber (m (8 * i + f))) g
 
-pub men-back : (m : Men) → OnBoard m → menOf (board m) ≡ m
-unfolding menOf placeOf
+pub men-back : (m : Men) → OnBoard m → menByNumbers (board m) ≡ m
+unfolding menByNumbers placeOf
 men-back m on = fun-ext λ k. go k (ltb k 64) refl
   where
     there : (k : ℕ) → k < 64 → getD (board m) (8 * (7 - rank k) + file k) 0 ≡ manNumber (m k)
@@ -243,8 +243,8 @@ men-back m on = fun-ext λ k. go k (ltb k 64) refl
         let f : 8 * rank k + file k ≡ k = omega arith in
         ap (λ (i : ℕ). getD (board m) (8 * i + file k) 0) e ∙ row-at m 8 (rank k) (file k) (omega arith) (omega arith) ∙ ap (λ (i : ℕ). manNumber (m i)) f
 
-    go : (k : ℕ) (t : Bool) → ltb k 64 ≡ t → cond t (manOf (getD (board m) (8 * (7 - rank k) + file k) 0)) empty ≡ m k
-    go k true e = ap manOf (there k (ltb-true k 64 e)) ∙ man-back (m k)
+    go : (k : ℕ) (t : Bool) → ltb k 64 ≡ t → cond t (manByNumber (getD (board m) (8 * (7 - rank k) + file k) 0)) empty ≡ m k
+    go k true e = ap manByNumber (there k (ltb-true k 64 e)) ∙ man-back (m k)
     go k false e = sym (on k (ltb-false k 64 e))
 
 -- the three fields after the men

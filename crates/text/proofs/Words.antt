@@ -11,15 +11,16 @@ use borrow.Author.Tests.{lt-ltb, le-ltb}
 use Rattle.squares.specs.Squares.{file, rank}
 use Rattle.laws.specs.Men.{Man, empty, Men}
 use Rattle.laws.specs.Boards.{menAt, kindSets, colorSets}
-use Rattle.placement.specs.Placement.{runText, squaresFrom, rankText, ranksText, menText}
-use Rattle.text.specs.declared.Verdict.{Verdict}
-use Rattle.text.specs.declared.Verdict.the-variants.{InForm, OutOfForm}
+use Rattle.men_field.specs.Placement.{runText, squaresFrom, rankText, ranksText, menText}
+use Rattle.text.specs.declared.Form.{Form}
+use Rattle.text.specs.declared.Form.the-variants.{InForm, OutOfForm}
 use Rattle.text.specs.declared.Raw.{Raw}
-use Rattle.text.specs.Form.{tailText, printOf, Fields, Says, fieldsOf, AnswersBy, Answers}
+use Rattle.text.specs.Form.{tailText, printOf, Says, AnswersBy, Answers}
+use Rattle.laws.specs.declared.Position.{Position}
 use Rattle.text.specs.Grammar.{slashed, Formed}
 use Rattle.squares.proofs.Testing.{order}
 use Rattle.laws.proofs.ManSets.{men-shown}
-use Rattle.placement.proofs.RankForm.{rank-formed, rank-printed}
+use Rattle.men_field.proofs.RankForm.{rank-formed, rank-printed}
 use Rattle.text.proofs.Inverse.{read-clean}
 use Rattle.laws.proofs.ManSets as sets
 
@@ -29,7 +30,7 @@ same-ranks m zero = refl
 same-ranks m (suc r) = ap (λ (t : List ℕ). 47 ∷ rankText m r ++ t) (same-ranks m r)
 
 -- what says fields has the form
-pub says-formed : (t : List ℕ) (f : Fields) → Says f t → Formed t
+pub says-formed : (t : List ℕ) (f : Position) → Says f t → Formed t
 unfolding printOf menText
 says-formed t f s =
     let m = menAt (f .pieces) (f .colors) in
@@ -45,15 +46,15 @@ says-formed t f s =
     }
 
 -- the men of eight lists of squares
-menIn : (ℕ → List Man) → Men
-menIn q k = cond (ltb k 64) (getD (q (rank k)) (file k) empty) empty
+menBy : (ℕ → List Man) → Men
+menBy q k = cond (ltb k 64) (getD (q (rank k)) (file k) empty) empty
 
-men-in-on : (q : ℕ → List Man) → sets.OnBoard (menIn q)
-unfolding menIn
-men-in-on q k h = rw (le-ltb k 64 h)
+men-by-on : (q : ℕ → List Man) → sets.OnBoard (menBy q)
+unfolding menBy
+men-by-on q k h = rw (le-ltb k 64 h)
 
-at-square : (q : ℕ → List Man) (r i : ℕ) → r < 8 → i < 8 → menIn q (8 * r + i) ≡ getD (q r) i empty
-unfolding menIn
+at-square : (q : ℕ → List Man) (r i : ℕ) → r < 8 → i < 8 → menBy q (8 * r + i) ≡ getD (q r) i empty
+unfolding menBy
 at-square q r i h k =
     let a : (8 * r + i) / 8 ≡ r = omega arith in
     let b : (8 * r + i) % 8 ≡ i = omega arith in
@@ -69,10 +70,10 @@ squares-are m (x ∷ xs) i h =
     ap₂ (λ (y : Man) (ys : List Man). y ∷ ys) (sym (ap m a) ∙ h 0 (omega arith))
     (squares-are m xs (suc i) (λ j l. let b : suc i + j ≡ i + suc j = omega arith in ap m b ∙ h (suc j) (omega arith)))
 
-rank-is : (q : ℕ → List Man) (r : ℕ) → r < 8 → length (q r) ≡ 8 → rankText (menIn q) r ≡ runText 0 (q r)
+rank-is : (q : ℕ → List Man) (r : ℕ) → r < 8 → length (q r) ≡ 8 → rankText (menBy q) r ≡ runText 0 (q r)
 rank-is q r h e =
-    ap (λ (n : ℕ). runText 0 (squaresFrom (menIn q) n (8 * r))) (sym e)
-    ∙ ap (runText 0) (squares-are (menIn q) (q r) (8 * r) (λ j l. at-square q r j h (omega arith)))
+    ap (λ (n : ℕ). runText 0 (squaresFrom (menBy q) n (8 * r))) (sym e)
+    ∙ ap (runText 0) (squares-are (menBy q) (q r) (8 * r) (λ j l. at-square q r j h (omega arith)))
 
 slashed-cong : (s q : ℕ → List ℕ) (n : ℕ) → ((r : ℕ) → r < n → s r ≡ q r) → slashed s n ≡ slashed q n
 unfolding slashed
@@ -93,22 +94,22 @@ module _ (t : List ℕ) (w : Formed t) where
   squaresOf : ℕ → List Man
   squaresOf r = squaresBy r (order r 8)
 
-  rank-there : (r : ℕ) → r < 8 → rankText (menIn squaresOf) r ≡ w .ranks r
+  rank-there : (r : ℕ) → r < 8 → rankText (menBy squaresOf) r ≡ w .ranks r
   unfolding squaresOf
   rank-there r h = let e = squares-by r (order r 8) h in rank-is squaresOf r h (e .0) ∙ e .1
 
   -- what has the form says fields
-  pub formed-says : (f : Fields) × Says f t
+  pub formed-says : (f : Position) × Says f t
   unfolding printOf menText
   formed-says =
-      let m = menIn squaresOf in
+      let m = menBy squaresOf in
       let tail = tailText (w .turn) (w .white) (w .black) (w .passant) in (
-        record { pieces = kindSets (menIn squaresOf); colors = colorSets (menIn squaresOf); turn = w .turn; white = w .white; black = w .black; passant = w .passant },
+        record { pieces = kindSets (menBy squaresOf); colors = colorSets (menBy squaresOf); turn = w .turn; white = w .white; black = w .black; passant = w .passant },
         record {
-          clean = read-clean m (men-in-on squaresOf);
+          clean = read-clean m (men-by-on squaresOf);
           square = w .square;
           text =
-              ap (λ (x : Men). menText x ++ tail) (men-shown m (men-in-on squaresOf))
+              ap (λ (x : Men). menText x ++ tail) (men-shown m (men-by-on squaresOf))
               ∙ ap (λ (x : List ℕ). (rankText m 7 ++ x) ++ tail) (sym (same-ranks m 7))
               ∙ ap₂ (λ (x y : List ℕ). (x ++ y) ++ tail) (rank-there 7 (omega arith)) (slashed-cong (rankText m) (w .ranks) 7 (λ r h. rank-there r (omega arith)))
               ∙ w .text;
@@ -116,10 +117,10 @@ module _ (t : List ℕ) (w : Formed t) where
       )
 
 -- the reader's verdict, in document 01's words: in form exactly when the text has the form
-pub in-form-formed : (t : List ℕ) (r : Raw) → Answers t r → r .verdict ≡ InForm → Formed t
-in-form-formed t r a e = says-formed t (fieldsOf r) (subst (λ (v : Verdict). AnswersBy t (fieldsOf r) v) e a)
+pub in-form-formed : (t : List ℕ) (r : Raw) → Answers t r → r .form ≡ InForm → Formed t
+in-form-formed t r a e = says-formed t (r .position) (subst (λ (v : Form). AnswersBy t (r .position) v) e a)
 
-pub out-of-form-not-formed : (t : List ℕ) (r : Raw) → Answers t r → r .verdict ≡ OutOfForm → Formed t → ⊥
+pub out-of-form-not-formed : (t : List ℕ) (r : Raw) → Answers t r → r .form ≡ OutOfForm → Formed t → ⊥
 out-of-form-not-formed t r a e w =
     let s = formed-says t w in
-    (subst (λ (v : Verdict). AnswersBy t (fieldsOf r) v) e a) .1 (s .0) (s .1)
+    (subst (λ (v : Form). AnswersBy t (r .position) v) e a) .1 (s .0) (s .1)

@@ -1,20 +1,20 @@
 -- The form of a text: "Four fields with single spaces, as the Rust prints". What the printer writes is the form, and the reader inverts it.
 use mathlib.Core.Path.{_≡_}
 use mathlib.Core.List.{List, [], _∷_, _++_}
-use Prim.Native.Nat.{ℕ, _+_, _<_}
-use lib.ListN.{replicate}
-use Rattle.squares.specs.Squares.{file, rank}
+use Prim.Native.Nat.{ℕ, _<_}
 use Rattle.geometry.specs.declared.Color.{Color}
 use Rattle.geometry.specs.declared.Color.the-variants.{White, Black}
 use Rattle.laws.specs.declared.CastleRights.{CastleRights}
 use Rattle.laws.specs.declared.CastleRights.the-variants.{NoRights, KingSide, QueenSide, Both}
 use Rattle.laws.specs.declared.EnPassantFlag.{EnPassantFlag}
 use Rattle.laws.specs.declared.EnPassantFlag.the-variants.{Any, Some, None}
+use Rattle.laws.specs.declared.Position.{Position}
 use Rattle.laws.specs.Men.{Men}
-use Rattle.laws.specs.Boards.{menAt, Clean}
-use Rattle.placement.specs.Placement.{menText}
-use Rattle.text.specs.declared.Verdict.{Verdict}
-use Rattle.text.specs.declared.Verdict.the-variants.{InForm, OutOfForm}
+use Rattle.laws.specs.Boards.{menIn, Clean}
+use Rattle.position.specs.Answers.{noPosition}
+use Rattle.men_field.specs.Placement.{squareName, menText}
+use Rattle.text.specs.declared.Form.{Form}
+use Rattle.text.specs.declared.Form.the-variants.{InForm, OutOfForm}
 use Rattle.text.specs.declared.Raw.{Raw}
 
 -- "`w` or `b`"
@@ -40,7 +40,7 @@ rightsText w b = orDash (sideText 75 81 w ++ sideText 107 113 b)
 -- "then the pawn's square, `-` for none, `?` for unknown"; "the square is any from a1 to h8"
 abbrev pub stateText : EnPassantFlag → List ℕ
 stateText Any = 63 ∷ []
-stateText (Some s) = (97 + file s) ∷ (49 + rank s) ∷ []
+stateText (Some s) = squareName s
 stateText None = 45 ∷ []
 
 -- the three fields after the men, each after a space
@@ -51,17 +51,9 @@ tailText c w b e = 32 ∷ turnByte c ∷ 32 ∷ rightsText w b ++ (32 ∷ stateT
 unfoldable pub printOf : Men → Color → CastleRights → CastleRights → EnPassantFlag → List ℕ
 printOf m c w b e = menText m ++ tailText c w b e
 
--- what a text says of a board
-pub record Fields : Type 0 where
-  pub pieces : List ℕ
-  pub colors : List ℕ
-  pub turn : Color
-  pub white : CastleRights
-  pub black : CastleRights
-  pub passant : EnPassantFlag
-
-abbrev pub printed : Fields → List ℕ
-printed f = printOf (menAt (f .pieces) (f .colors)) (f .turn) (f .white) (f .black) (f .passant)
+-- the text of a position's fields
+abbrev pub printed : Position → List ℕ
+printed p = printOf (menIn p) (p .turn) (p .white) (p .black) (p .passant)
 
 -- "the square is any from a1 to h8": a square that is named is one of the board
 abbrev pub StateFits : EnPassantFlag → Type 0
@@ -69,23 +61,16 @@ StateFits Any = Unit {0}
 StateFits (Some s) = s < 64
 StateFits None = Unit {0}
 
--- the text t says f: clean men, a square of the board if one is named, and the printer writes t of them
-pub record Says (f : Fields) (t : List ℕ) : Type 0 where
+-- the text t says f: its men are clean, a square that it names is of the board, and the printer writes t of them
+pub record Says (f : Position) (t : List ℕ) : Type 0 where
   pub clean : Clean (f .pieces) (f .colors)
   pub square : StateFits (f .passant)
   pub text : printed f ≡ t
 
-abbrev pub fieldsOf : Raw → Fields
-fieldsOf r = record { pieces = r .pieces; colors = r .colors; turn = r .turn; white = r .white; black = r .black; passant = r .passant }
-
--- what stands beside the verdict on a text out of form: no men, White, no rights, unknown
-abbrev pub noFields : Fields
-noFields = record { pieces = replicate 6 0; colors = replicate 2 0; turn = White; white = NoRights; black = NoRights; passant = Any }
-
--- "14 TEXT: the text hasn't the form under Text": in form exactly when the text says the fields, out of form exactly when it says none
-abbrev pub AnswersBy : List ℕ → Fields → Verdict → Type 0
+-- "14 TEXT: the text hasn't the form under Text": in form exactly when the text says the position, out of form exactly when it says none
+abbrev pub AnswersBy : List ℕ → Position → Form → Type 0
 AnswersBy t f InForm = Says f t
-AnswersBy t f OutOfForm = (f ≡ noFields) × ((g : Fields) → Says g t → ⊥)
+AnswersBy t f OutOfForm = (f ≡ noPosition) × ((g : Position) → Says g t → ⊥)
 
 abbrev pub Answers : List ℕ → Raw → Type 0
-Answers t r = AnswersBy t (fieldsOf r) (r .verdict)
+Answers t r = AnswersBy t (r .position) (r .form)

@@ -6,7 +6,7 @@ use Prim.Native.Nat.{ℕ, zero, suc, _<_}
 use Rattle.geometry.specs.declared.Color.{Color}
 use Rattle.laws.specs.declared.CastleRights.{CastleRights}
 use Rattle.laws.specs.declared.EnPassantFlag.{EnPassantFlag}
-use Rattle.placement.specs.Grammar.{isRank}
+use Rattle.men_field.specs.Grammar.{isRank}
 use Rattle.text.specs.Form.{tailText, StateFits}
 
 -- the r lowest of given ranks, from the highest down, each after a slash

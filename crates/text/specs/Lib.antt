@@ -1,5 +1,4 @@
 pub mod Form
-pub mod Copies
-pub mod Reading
 pub mod Grammar
 pub mod Entries
+pub mod inner

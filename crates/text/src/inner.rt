@@ -1,25 +1,31 @@
 // The printer, the copy into a lent slice, and the reader.
 use super::Copied;
+use super::Form;
 use super::Line;
 use super::Raw;
 use super::Scan;
-use super::Verdict;
+use board::Boarded;
+use board::RetractableBoard;
 use geometry::Color;
 use laws::CastleRights;
 use laws::EnPassantFlag;
-use placement::inner::push;
+use laws::Position;
+use men_field::inner::push;
+use refusal::Refusal;
+use refusal::Verdict;
 ghost use mathlib.Core.Path.{_≡_};
 ghost use mathlib.Core.Bool.{cond};
 ghost use mathlib.Core.List.{[], _++_};
 ghost use Prim.Native.Nat.{_≤_};
 ghost use lib.Dec.{ltb};
 ghost use lib.ListN.{length, take, drop};
-ghost use Rattle.laws.specs.Boards.{menAt};
-ghost use Rattle.accept.specs.Said.{Writes};
-ghost use Rattle.placement.specs.Lines.{textOf, Added, Holds};
-ghost use Rattle.text.specs.Form.{turnByte, sideText, rightsText, stateText, tailText, printOf, Answers};
-ghost use Rattle.text.specs.Copies.{copiedSays, SameAs};
-ghost use Rattle.text.specs.Reading.{rightOf, squareOf, stepMen, stepTail, stepOf, startOf, runOf, turnOf, sideOf, flagOf, rawOf, noRaw};
+ghost use Rattle.geometry.specs.Lines.{IsBetween};
+ghost use Rattle.refusal.specs.Said.{Writes};
+ghost use Rattle.men_field.specs.inner.Lines.{textOf, Added, Holds};
+ghost use Rattle.text.specs.Form.{turnByte, sideText, rightsText, stateText, tailText, printed, Answers};
+ghost use Rattle.text.specs.Entries.{Reads, textOn};
+ghost use Rattle.text.specs.inner.Copies.{copiedSays, SameAs};
+ghost use Rattle.text.specs.inner.Reading.{rightOf, squareOf, stepMen, stepTail, stepOf, startOf, runOf, turnOf, sideOf, flagOf, rawOf, noRaw};
 
 fn turn_byte(c: Color) -> u8
     ensures { λ r. ⌜ r ≡ turnByte c ⌝ }
@@ -73,31 +79,30 @@ fn put_state(l: Line, e: EnPassantFlag) -> Line
 }
 
 // The three fields after the men, each after a space.
-fn put_tail(l: Line, c: Color, w: CastleRights, b: CastleRights, e: EnPassantFlag) -> Line
+fn put_tail(l: Line, p: Position) -> Line
     requires { ⌜ l .len ≤ 71 ⌝ }
-    ensures { λ r. ⌜ Added l (tailText c w b e) r ⌝ }
+    ensures { λ r. ⌜ Added l (tailText (p .turn) (p .white) (p .black) (p .passant)) r ⌝ }
 {
+    let turn = p.turn;
+    let white = p.white;
+    let black = p.black;
+    let state = p.passant;
     let l1 = push(l, b' ');
-    let l2 = push(l1, turn_byte(c));
+    let l2 = push(l1, turn_byte(turn));
     let l3 = push(l2, b' ');
-    let l4 = put_rights(l3, w, b);
+    let l4 = put_rights(l3, white, black);
     let l5 = push(l4, b' ');
-    put_state(l5, e)
+    put_state(l5, state)
 }
 
-// The text of a board's fields (the Rust's Display).
-pub fn line_of(
-    pieces: [u64; 6],
-    colors: [u64; 2],
-    turn: Color,
-    white: CastleRights,
-    black: CastleRights,
-    passant: EnPassantFlag,
-) -> Line
-    ensures { λ r. ⌜ Holds r (printOf (menAt pieces colors) turn white black passant) × (r .len ≤ 81) ⌝ }
+// The text of a position's fields (the Rust's Display).
+pub fn line_of(p: Position) -> Line
+    ensures { λ r. ⌜ Holds r (printed p) × (r .len ≤ 81) ⌝ }
 {
-    let men = placement::inner::put_men(pieces, colors);
-    put_tail(men, turn, white, black, passant)
+    let pieces = p.pieces;
+    let colors = p.colors;
+    let men = men_field::inner::put_men(pieces, colors);
+    put_tail(men, p)
 }
 
 // The first `n` bytes go to the front of `out`.
@@ -120,7 +125,7 @@ fn written(have: usize, n: usize) -> usize
 }
 
 // A line into a lent slice, whole or not at all.
-pub fn copy(line: Line, out: &mut [u8]) -> Copied
+fn copy(line: Line, out: &mut [u8]) -> Copied
     requires { ⌜ line .len ≤ 81 ⌝ }
     ensures { λ r. ⌜ Writes [] (textOf line) (now (out .entry)) (copiedSays r) (now (out .exit)) ⌝ }
 {
@@ -133,6 +138,14 @@ pub fn copy(line: Line, out: &mut [u8]) -> Copied
         return Copied::Room(n);
     }
     Copied::Count(n)
+}
+
+// The text of any board into a lent slice, whole or not at all.
+pub fn print(b: RetractableBoard, out: &mut [u8]) -> Copied
+    ensures { λ r. ⌜ Writes [] (textOn b) (now (out .entry)) (copiedSays r) (now (out .exit)) ⌝ }
+{
+    let line = line_of(board::inner::position_of(b));
+    copy(line, out)
 }
 
 fn same(l: Line, t: &[u8]) -> bool
@@ -190,8 +203,8 @@ fn step_men(s: Scan, b: u8) -> Scan
         return s;
     }
     let mut out = s;
-    out.men[at] = placement::inner::number_of(b);
-    out.at = at + placement::inner::width_of(b);
+    out.men[at] = men_field::inner::number_of(b);
+    out.at = at + men_field::inner::width_of(b);
     out
 }
 
@@ -282,35 +295,34 @@ fn raw_of(s: Scan) -> Raw
     ensures { λ r. ⌜ r ≡ rawOf s ⌝ }
 {
     let men = s.men;
-    let sets = placement::inner::sets_of(men);
+    let sets = men_field::inner::sets_of(men);
     let pieces = sets.pieces;
     let colors = sets.colors;
     let turn = turn_of(s.turn);
     let white = side_of(s.rights % 4);
     let black = side_of(s.rights / 4);
     let passant = flag_of(s.square);
-    Raw {
-        verdict: Verdict::InForm,
+    let position = Position {
         pieces: pieces,
         colors: colors,
         turn: turn,
         white: white,
         black: black,
         passant: passant,
+    };
+    Raw {
+        form: Form::InForm,
+        position: position,
     }
 }
 
 fn no_raw() -> Raw
     ensures { λ r. ⌜ r ≡ noRaw ⌝ }
 {
+    let position = position::inner::nothing();
     Raw {
-        verdict: Verdict::OutOfForm,
-        pieces: [0; 6],
-        colors: [0; 2],
-        turn: Color::White,
-        white: CastleRights::NoRights,
-        black: CastleRights::NoRights,
-        passant: EnPassantFlag::Any,
+        form: Form::OutOfForm,
+        position: position,
     }
 }
 
@@ -319,15 +331,29 @@ pub fn read_raw(text: &[u8]) -> Raw
     ensures { λ r. ⌜ Answers (now (text .entry)) r ⌝ }
 {
     let raw = raw_of(walk(text));
-    let pieces = raw.pieces;
-    let colors = raw.colors;
-    let turn = raw.turn;
-    let white = raw.white;
-    let black = raw.black;
-    let passant = raw.passant;
-    let line = line_of(pieces, colors, turn, white, black, passant);
+    let p = raw.position;
+    let line = line_of(p);
     if same(line, text) {
         return raw;
     }
     no_raw()
+}
+
+// A board from a text: refusal 14, then 1 to 6. `t` is the table of squares between, lent.
+pub fn read(t: &[u64; 4096], text: &[u8]) -> Boarded
+    requires { ⌜ IsBetween (now t) ⌝ }
+    ensures { λ r. ⌜ Reads (now (text .entry)) r ⌝ }
+{
+    let raw = read_raw(text);
+    let form = raw.form;
+    match form {
+        Form::OutOfForm => {
+            let v = Verdict::Refused(Refusal::Text);
+            board::inner::board_by(v, board::no_board())
+        }
+        Form::InForm => {
+            let p = raw.position;
+            board::inner::board_from(t, p)
+        }
+    }
 }

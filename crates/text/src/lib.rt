@@ -1,34 +1,28 @@
 // The text of a board: four fields, printed and read. What a text is stands in specs/Form, what the entries answer in specs/Entries.
-use accept::Refusal;
 use board::Boarded;
 use board::RetractableBoard;
-use geometry::Color;
-use laws::CastleRights;
-use laws::EnPassantFlag;
-pub use placement::Line;
+use laws::Position;
+pub use men_field::Line;
+use refusal::Refusal;
+use refusal::Verdict;
 ghost use mathlib.Core.Path.{_≡_};
-ghost use Rattle.accept.specs.Said.{Writes};
+ghost use Rattle.refusal.specs.Said.{Writes};
 ghost use Rattle.board.specs.Gate.{boardTests};
-ghost use Rattle.text.specs.Copies.{copiedSays};
+ghost use Rattle.text.specs.inner.Copies.{copiedSays};
 ghost use Rattle.text.specs.Entries.{Reads, textOn, printedSays};
 
 pub mod inner; // inner.rt: the printer, the reader, and the copy into a lent slice
 
 // Whether a text has the form.
-pub enum Verdict {
+pub enum Form {
     InForm,
     OutOfForm,
 }
 
-// What a text says: no men, White, no rights and unknown where it has not the form.
+// What a text says: the empty position where it has not the form.
 pub struct Raw {
-    pub verdict: Verdict,
-    pub pieces: [u64; 6],
-    pub colors: [u64; 2],
-    pub turn: Color,
-    pub white: CastleRights,
-    pub black: CastleRights,
-    pub passant: EnPassantFlag,
+    pub form: Form,
+    pub position: Position,
 }
 
 // A line copied into a lent slice: how many bytes were written, or are needed.
@@ -58,23 +52,8 @@ pub enum Printed {
 pub fn read(text: &[u8]) -> Boarded
     ensures { λ r. ⌜ Reads (now (text .entry)) r ⌝ }
 {
-    let raw = inner::read_raw(text);
-    let form = raw.verdict;
-    match form {
-        Verdict::OutOfForm => {
-            let v = accept::Verdict::Refused(Refusal::Text);
-            board::inner::board_by(v, board::no_board())
-        }
-        Verdict::InForm => {
-            let pieces = raw.pieces;
-            let colors = raw.colors;
-            let turn = raw.turn;
-            let white = raw.white;
-            let black = raw.black;
-            let passant = raw.passant;
-            RetractableBoard::new(pieces, colors, turn, white, black, passant)
-        }
-    }
+    let t = tables::between_table();
+    inner::read(&t, text)
 }
 
 // The text of a board, into a lent slice: refusals 1 to 7, then 13. Only a whole text is written.
@@ -84,17 +63,8 @@ pub fn print(b: RetractableBoard, out: &mut [u8]) -> Printed
     let t = tables::between_table();
     let v = board::inner::gate(&t, b);
     match v {
-        accept::Verdict::Refused(r) => Printed::Refused(r),
-        accept::Verdict::Accepted => {
-            let pieces = b.pieces;
-            let colors = b.colors;
-            let turn = b.turn;
-            let white = b.white;
-            let black = b.black;
-            let passant = b.passant;
-            let line = inner::line_of(pieces, colors, turn, white, black, passant);
-            told(inner::copy(line, out))
-        }
+        Verdict::Refused(r) => Printed::Refused(r),
+        Verdict::Accepted => told(inner::print(b, out)),
     }
 }
 

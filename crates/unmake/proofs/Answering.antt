@@ -5,53 +5,44 @@ use Prim.Native.Nat.{ℕ, _/_, _%_, _<_}
 use native.Mathlib.Omega.{arith}
 use lib.Dec.{eqb, ltb}
 use borrow.Author.Tests.{eqb-true, eq-eqb, ne-eqb, ltb-true}
-use Rattle.squares.specs.Tests.{_and_, _or_}
+use Rattle.squares.specs.Tests.{_and_}
 use Rattle.squares.specs.Squares.{allTo}
 use Rattle.geometry.specs.declared.Color.{Color}
 use Rattle.geometry.specs.declared.Color.the-variants.{White, Black}
 use Rattle.geometry.specs.Colors.{opp, rankFor, behind}
-use Rattle.laws.specs.declared.CastleRights.{CastleRights}
+use Rattle.laws.specs.declared.Way.{Way}
+use Rattle.laws.specs.declared.Way.the-variants.{Plain as plain, Passant as passant, Castle as castling}
+use Rattle.laws.specs.declared.Position.{Position}
 use Rattle.laws.specs.declared.ChessRetraction.{ChessRetraction}
 use Rattle.laws.specs.Men.{Man, Men, manNumber, manOf, numbered, isEmpty, isPawn}
-use Rattle.laws.specs.Positions.{Pos, short, long, holds, rightsOf, retractor}
+use Rattle.laws.specs.Positions.{Pos, retractor}
 use Rattle.laws.specs.Acceptance.{edge}
-use Rattle.laws.specs.Moves.{plain, passant, castling}
+use Rattle.laws.specs.Moves.{way}
 use Rattle.laws.specs.Unmaking.{leaving, promotedTo, wayBack, unmade, unmadeBy}
-use Rattle.laws.specs.Boards.{Clean}
-use Rattle.placing.specs.declared.Position.{Position}
-use Rattle.placing.specs.Placed.{menIn, posAt, positionOf, rightsIn}
-use Rattle.moves.specs.declared.Way.{Way}
-use Rattle.moves.specs.Stepping.{wayOf, wayFor, possibleFor}
+use Rattle.laws.specs.Boards.{Clean, menIn, posAt}
+use Rattle.position.specs.Answers.{positionOf}
+use Rattle.moves.specs.Stepping.{possibleFor}
+use Rattle.moves.specs.inner.Parts.{wayFor}
 use Rattle.unmake.specs.Retracted.{sourceFor, targetFor, stepFor, unmadeFor}
-use Rattle.unmake.specs.Parts.{Fits, undoableFor, restFor, Leaves}
+use Rattle.unmake.specs.inner.Parts.{Fits, undoableFor, restFor, Leaves}
 use Rattle.squares.proofs.Testing.{left, and-false, agree, agree-eq}
 use Rattle.squares.proofs.Every.{all-at}
-use Rattle.laws.proofs.Cases.{by-men}
-use Rattle.laws.proofs.Mans.{by-number}
+use Rattle.laws.proofs.Cases.{by-colors}
+use Rattle.position.proofs.Editing.{is-man}
+use Rattle.position.proofs.Composing.{position-shown, position-clean}
 use Rattle.moves.proofs.Steps.{impossible}
-use Rattle.placing.proofs.Composing.{position-shown, position-clean}
 use Rattle.unmake.proofs.Backs.{earlier, earlier-on}
-use Rattle.laws.specs.Moves as laws
 
 -- numbers of men
-pub empty-number : (x : Man) → eqb (manNumber x) 0 ≡ isEmpty x
-unfolding _and_
-empty-number x = agree-eq _ _ (by-men (λ y. agree (eqb (manNumber y) 0) (isEmpty y)) refl x)
-
-pub no-man : {n : ℕ} (x : Man) → n ≡ manNumber x → eqb n 0 ≡ isEmpty x
-no-man x e = ap (λ (k : ℕ). eqb k 0) e ∙ empty-number x
-
-pub is-man : {n : ℕ} (x : Man) → n ≡ manNumber x → manOf n ≡ x
-is-man x e = ap manOf e ∙ by-number x
-
 pub promoted-number : (y : ℕ) → y < 14 → y / 2 ≡ promotedTo true (manOf y)
 unfolding allTo _and_
 promoted-number y h = eqb-true _ _ (all-at 14 (λ n. eqb (n / 2) (promotedTo true (manOf n))) refl y h)
 
-pub pawn-number : (c : Color) (u : ℕ) → u < 6 → eqb u 1 ≡ isPawn (numbered c u)
+pawn-number : (c : Color) (u : ℕ) → u < 6 → eqb u 1 ≡ isPawn (numbered c u)
 unfolding allTo _and_
-pawn-number White u h = agree-eq _ _ (all-at 6 (λ n. agree (eqb n 1) (isPawn (numbered White n))) refl u h)
-pawn-number Black u h = agree-eq _ _ (all-at 6 (λ n. agree (eqb n 1) (isPawn (numbered Black n))) refl u h)
+pawn-number c u h =
+    agree-eq _ _ (all-at 6 (λ n. agree (eqb n 1) (isPawn (numbered c n)))
+    (by-colors (λ d. allTo 6 (λ n. agree (eqb n 1) (isPawn (numbered d n)))) refl c) u h)
 
 -- what un-make overwrites
 pub up-five : (c : Color) (s : ℕ) → s < 64 → rankFor c s ≡ 5 → (0 < rankFor c s) × (0 < rankFor (opp c) s)
@@ -66,7 +57,7 @@ pub not-crossed : (m : Men) (c : Color) (s : ℕ) → (rankFor c s ≡ 5 → ⊥
 unfolding undoableFor _and_
 not-crossed m c s z = ap (λ (t : Bool). t and isEmpty (m (behind c s)) and isEmpty (m (behind (opp c) s))) (sym (ne-eqb (rankFor c s) 5 z))
 
-fits-of : (w : laws.Way) (c : Color) (s : ℕ) (m : Men) → undoableFor w c s m ≡ true → Fits w c s
+fits-of : (w : Way) (c : Color) (s : ℕ) (m : Men) → undoableFor w c s m ≡ true → Fits w c s
 unfolding undoableFor
 fits-of plain c s m e = tt
 fits-of passant c s m e = let h : rankFor c s ≡ 5 = eqb-true (rankFor c s) 5 (left _ _ (left _ _ e)) in omega arith
@@ -106,7 +97,7 @@ pub record Known (p : Position) (r : ChessRetraction) (w : Way) (c : Color) (x y
   pub colour : c ≡ opp (p .turn)
   pub stands : y ≡ manNumber (menIn p (r .source))
   pub left : manOf x ≡ leaving (r .unpromotion) c (manOf y)
-  pub back : wayOf w ≡ wayFor (manOf x) (r .target) (r .source) (r .uncaptured)
+  pub back : w ≡ wayFor (manOf x) (r .target) (r .source) (r .uncaptured)
 
 module _ (p : Position) (r : ChessRetraction) (w : Way) (c : Color) (x y : ℕ) (k : Known p r w c x y) where
   abbrev today : Pos
@@ -115,23 +106,23 @@ module _ (p : Position) (r : ChessRetraction) (w : Way) (c : Color) (x y : ℕ) 
   left-is : manOf x ≡ leaving (r .unpromotion) c (menIn p (r .source))
   left-is = k .left ∙ ap (leaving (r .unpromotion) c) (is-man (menIn p (r .source)) (k .stands))
 
-  way-is : wayOf w ≡ wayBack (retractor today) today r
+  way-is : w ≡ wayBack (retractor today) today r
   unfolding wayFor
   way-is =
-      k .back ∙ ap (λ (m : Man). laws.way m (r .target) (r .source) (r .uncaptured)) left-is
+      k .back ∙ ap (λ (m : Man). way m (r .target) (r .source) (r .uncaptured)) left-is
       ∙ ap (λ (d : Color). wayBack d today r) (k .colour)
 
-  back-is : unmadeBy (wayOf w) c today r ≡ unmade today r
-  back-is = ap₂ (λ (v : laws.Way) (d : Color). unmadeBy v d today r) way-is (k .colour)
+  back-is : unmadeBy w c today r ≡ unmade today r
+  back-is = ap₂ (λ (v : Way) (d : Color). unmadeBy v d today r) way-is (k .colour)
 
-  undo-is : undoableFor (wayOf w) c (r .source) (menIn p) ≡ undoableFor (wayBack (retractor today) today r) (retractor today) (r .source) (menIn p)
-  undo-is = ap₂ (λ (v : laws.Way) (d : Color). undoableFor v d (r .source) (menIn p)) way-is (k .colour)
+  undo-is : undoableFor w c (r .source) (menIn p) ≡ undoableFor (wayBack (retractor today) today r) (retractor today) (r .source) (menIn p)
+  undo-is = ap₂ (λ (v : Way) (d : Color). undoableFor v d (r .source) (menIn p)) way-is (k .colour)
 
-  pub step-no : undoableFor (wayOf w) c (r .source) (menIn p) ≡ false → stepFor today r ≡ false
+  pub step-no : undoableFor w c (r .source) (menIn p) ≡ false → stepFor today r ≡ false
   step-no e = step-parts today r ∙ no-and _ _ (sym undo-is ∙ e)
 
   pub leaves : Clean (p .pieces) (p .colors) → r .source < 64 → r .target < 64 → r .uncaptured < 6 → x < 14
-      → undoableFor (wayOf w) c (r .source) (menIn p) ≡ true → Leaves p r w c x
+      → undoableFor w c (r .source) (menIn p) ≡ true → Leaves p r w c x
   leaves ok hs ht hu hx e = record {
     sound = ok;
     source-in = hs;
@@ -139,17 +130,17 @@ module _ (p : Position) (r : ChessRetraction) (w : Way) (c : Color) (x y : ℕ) 
     uncaptured-in = hu;
     man-in = hx;
     man-is = left-is;
-    fits = fits-of (wayOf w) c (r .source) (menIn p) e;
+    fits = fits-of w c (r .source) (menIn p) e;
   }
 
-  module _ (l : Leaves p r w c x) (e : Position) (ee : e ≡ positionOf (unmadeBy (wayOf w) c today r)) where
+  module _ (l : Leaves p r w c x) (e : Position) (ee : e ≡ positionOf (unmadeBy w c today r)) where
     pub back-clean : Clean (e .pieces) (e .colors)
     back-clean = subst (λ (q : Position). Clean (q .pieces) (q .colors)) (sym ee) (position-clean (earlier p r w c l) (earlier-on p r w c l))
 
     pos-is : posAt e ≡ unmade today r
     pos-is = ap posAt ee ∙ position-shown (earlier p r w c l) (earlier-on p r w c l) ∙ back-is
 
-    pub step-is : (n : ℕ) (t : Bool) → n ≡ promotedTo (r .unpromotion) (manOf y) → undoableFor (wayOf w) c (r .source) (menIn p) ≡ true
+    pub step-is : (n : ℕ) (t : Bool) → n ≡ promotedTo (r .unpromotion) (manOf y) → undoableFor w c (r .source) (menIn p) ≡ true
         → t ≡ restFor c (posAt e) r n → stepFor today r ≡ t
     unfolding _and_
     step-is n t en eu et =
@@ -168,12 +159,6 @@ unfolding _and_ restFor
 rest-is c e r k {a} {z} h ea ez =
     ap₂ (λ (i j : Bool). i && j)
     (ap₂ (λ (i j : Bool). not (i && eqb (r .source / 8 % 7) 0) && not (j && eqb (r .target / 8 % 7) 0)) (pawn-number (opp c) (r .uncaptured) h) ea) ez
-
-pub held-is : (w b : CastleRights) (c : Color) (x y z : Bool)
-    → ((holds (rightsIn w b c) short && (x || y)) || (holds (rightsIn w b c) long && (x || z))) ≡ ((rightsOf w b c short and (x or y)) or (rightsOf w b c long and (x or z)))
-unfolding _and_ _or_
-held-is w b White x y z = refl
-held-is w b Black x y z = refl
 
 pub source-in : (p : Pos) (r : ChessRetraction) → sourceFor p r ≡ true → r .source < 64
 unfolding sourceFor

@@ -2,36 +2,33 @@
 -- is clean, is that of the Laws, and passes 1 to 5.
 use mathlib.Core.Path.{_≡_, refl, sym, ap, _∙_, subst}
 use mathlib.Core.Bool.{Bool, true, not, cond}
-use mathlib.Core.List.{List}
 use Prim.Native.Nat.{ℕ}
 use lib.Dec.{eqb}
 use Rattle.squares.specs.Tests.{_and_}
-use Rattle.geometry.specs.declared.Color.{Color}
-use Rattle.laws.specs.declared.EnPassantFlag.{EnPassantFlag}
+use Rattle.laws.specs.declared.Position.{Position}
 use Rattle.laws.specs.declared.ChessRetraction.{ChessRetraction}
-use Rattle.laws.specs.Positions.{Pos, Rights, rightsOf}
-use Rattle.laws.specs.Acceptance.{kingsOk, pawnsOk, rightsOk, stateOk, accepted}
+use Rattle.laws.specs.Positions.{Pos}
+use Rattle.laws.specs.Acceptance.{accepted}
 use Rattle.laws.specs.Unmaking.{unmade}
-use Rattle.laws.specs.Boards.{menAt, menOk, Clean}
-use Rattle.accept.specs.declared.Refusal.the-variants.{Source, Target, Held, Step}
-use Rattle.accept.specs.declared.Verdict.{Verdict}
-use Rattle.accept.specs.declared.Verdict.the-variants.{Accepted}
-use Rattle.accept.specs.Verdicts.{verdictNumber, thirdOf, fiveOf}
-use Rattle.placing.specs.declared.Position.{Position}
-use Rattle.placing.specs.Placed.{posAt, positionOf}
-use Rattle.unmake.specs.declared.Unmade.{Unmade}
-use Rattle.unmake.specs.Retracted.{sourceFor, targetFor, heldFor, stepFor, unmadeFor, answered, refused, steppedTo, unmadeTo}
+use Rattle.laws.specs.Boards.{menOk, Clean, posAt}
+use Rattle.refusal.specs.declared.Refusal.the-variants.{Source, Target, Held, Step}
+use Rattle.refusal.specs.declared.Verdict.{Verdict}
+use Rattle.refusal.specs.declared.Verdict.the-variants.{Accepted}
+use Rattle.refusal.specs.Refusals.{verdictNumber}
+use Rattle.position.specs.declared.Positioned.{Positioned}
+use Rattle.position.specs.Answers.{positionOf, answered, refused}
+use Rattle.unmake.specs.Retracted.{sourceFor, targetFor, heldFor, stepFor, unmadeFor, steppedTo, unmadeTo}
 use Rattle.squares.proofs.Testing.{left, right, agree, agree-eq}
 use Rattle.laws.proofs.Cases.{by-cases}
 use Rattle.laws.proofs.ManSets.{men-on, men-ok}
 use Rattle.laws.proofs.Retracting.{canRetract}
 use Rattle.laws.proofs.Passes.{Passes, unmade-passes}
 use Rattle.laws.proofs.BoardPasts.{unmade-on}
-use Rattle.placing.proofs.Composing.{position-shown, position-clean}
+use Rattle.position.proofs.Composing.{position-shown, position-clean}
 use Rattle.moves.proofs.Steps.{denied}
 
 -- the answer of four tests
-abbrev answerBy : Position → (a b d e : Bool) → Unmade
+abbrev answerBy : Position → (a b d e : Bool) → Positioned
 answerBy q a b d e = cond a (cond b (cond d (refused Held) (cond e (answered q) (refused Step))) (refused Target)) (refused Source)
 
 -- exactly when each number is given: 9 and 10 pass where a and b say so, 11 is given where d does, 12 passes where e does
@@ -71,12 +68,6 @@ module _ (p : Pos) (r : ChessRetraction) where
       let all : (sourceFor p r and targetFor p r and not (heldFor p r) and stepFor p r) ≡ true = sym tests ∙ h in
       rw (left _ _ (left _ _ (left _ _ all)), right _ _ (left _ _ (left _ _ all)), denied (heldFor p r) (right _ _ (left _ _ all)), right _ _ all)
 
--- 1 to 5 by their tests
-five-by : (pieces colors : List ℕ) (c : Color) (ρ : Rights) (st : EnPassantFlag) → menOk pieces colors ≡ true → kingsOk (menAt pieces colors) ≡ true → pawnsOk (menAt pieces colors) ≡ true
-    → rightsOk (menAt pieces colors) ρ ≡ true → stateOk (menAt pieces colors) c st ≡ true → fiveOf pieces colors c ρ st ≡ Accepted
-unfolding fiveOf thirdOf
-five-by pieces colors c ρ st a b d e f = rw (a, b, d, e, f)
-
 module _ (p : Position) (r : ChessRetraction) (h : canRetract (posAt p) r ≡ true) where
   abbrev q : Position
   q = unmadeFor (posAt p) r
@@ -90,12 +81,10 @@ module _ (p : Position) (r : ChessRetraction) (h : canRetract (posAt p) r ≡ tr
   unfolding unmadeFor
   unmade-clean = position-clean (unmade (posAt p) r) (unmade-on (posAt p) r (men-on (p .pieces) (p .colors)) h)
 
-  unmade-men : menOk (q .pieces) (q .colors) ≡ true
+  -- replay's tests 1 to 5 pass on what un-make gives
+  pub unmade-men : menOk (q .pieces) (q .colors) ≡ true
   unfolding unmadeFor positionOf
   unmade-men = men-ok (unmade (posAt p) r .men)
 
-  -- replay's tests 1 to 5 pass on what un-make gives
-  pub unmade-five : accepted (posAt p) ≡ true → fiveOf (q .pieces) (q .colors) (q .turn) (rightsOf (q .white) (q .black)) (q .passant) ≡ Accepted
-  unmade-five ok =
-      let s : Passes (posAt q) = subst Passes (sym unmade-shown) (unmade-passes (posAt p) r ok h) in
-      five-by (q .pieces) (q .colors) (q .turn) (rightsOf (q .white) (q .black)) (q .passant) unmade-men (s .kings) (s .pawns) (s .rights) (s .state)
+  pub unmade-lawful : accepted (posAt p) ≡ true → Passes (posAt q)
+  unmade-lawful ok = subst Passes (sym unmade-shown) (unmade-passes (posAt p) r ok h)

@@ -1,2 +1,2 @@
 pub mod Retracted
-pub mod Parts
+pub mod inner

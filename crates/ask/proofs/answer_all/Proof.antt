@@ -1,18 +1,16 @@
 -- `ask::answer_all` meets its contract.
-use mathlib.Core.Path.{_≡_}
-use Prim.Native.Nat.{_≤_}
+use Prim.Native.Nat.{_-_}
 use native.Mathlib.Omega.{arith}
-use lib.ListN.{length}
 use borrow.Author.Needs.{needs}
-use Rattle.feed.proofs.Searched.{line-short}
+use Rattle.input.proofs.Searched.{line-short}
 use Rattle.ask.proofs.answer_all.Statement.{statement}
 use Rattle.ask.proofs.answer_all.Tie as tie
 
 abbrev Inv-loop : tie.InvT-loop
-Inv-loop chunk₀ line₀ out₀ c₀ turns₀ chunk line out c turns = Unit {0}
+Inv-loop chunk₀ line₀ out₀ c₀ counter₀ chunk line out c counter = Unit {0}
 
 abbrev μ-loop : tie.MeasureT-loop
-μ-loop chunk₀ line₀ out₀ c₀ turns₀ chunk line out c turns = turns
+μ-loop chunk₀ line₀ out₀ c₀ counter₀ chunk line out c counter = 18446744073709551615 - counter
 
 start-requires : tie.Need-start-requires Inv-loop μ-loop
 start-requires c κs = search needs
@@ -30,13 +28,10 @@ returns : tie.Need-returns Inv-loop μ-loop
 returns c = search needs
 
 answer-requires : tie.Need-answer-requires Inv-loop μ-loop
-answer-requires c κs =
-    let k : c .before .before .before .before .s .given .0 .0 ≤ 512 = line-short _ _ _ _ _ _ (c .before .before .before .before .before .before .next .ensures) _ _ _ (c .before .before .before .before .s .given .1) in
-    let e : length (c .before .before .before .before .before .before .next .last .1 .0) ≡ 512 = search needs in
-    omega arith
+answer-requires c κs = line-short _ _ _ _ _ _ (c .before .before .before .before .before .next .ensures) _ _ _ (c .before .before .before .s .given .1)
 
-sub-turns : tie.Need-sub-turns Inv-loop μ-loop
-sub-turns c = omega arith
+add-counter : tie.Need-add-counter Inv-loop μ-loop
+add-counter c = omega arith
 
 loop-less : tie.Need-loop-less Inv-loop μ-loop
 loop-less c = omega arith
@@ -59,7 +54,7 @@ answer-all-spec =
     enum-known-s
     returns
     answer-requires
-    sub-turns
+    add-counter
     loop-less
     loop-again
     returns-2)

@@ -1,48 +1,21 @@
 // What un-make refuses, and replay of a board, over a lent table of squares between.
 use super::super::Boarded;
 use super::super::RetractableBoard;
-use accept::Verdict;
 use laws::ChessRetraction;
-use placing::Position;
-use unmake::Unmade;
+use position::Positioned;
+use refusal::Verdict;
 ghost use mathlib.Core.Path.{_≡_};
 ghost use Rattle.geometry.specs.Lines.{IsBetween};
-ghost use Rattle.board.specs.Moving.{placedOn, boardedOf, unmakeGate, replayGate, replayedBoard, Sound};
-
-// A board's fields without the worked-out ones.
-pub fn placed(b: RetractableBoard) -> Position
-    ensures { λ p. ⌜ p ≡ placedOn b ⌝ }
-{
-    let pieces = b.pieces;
-    let colors = b.colors;
-    let turn = b.turn;
-    let white = b.white;
-    let black = b.black;
-    let passant = b.passant;
-    Position {
-        pieces,
-        colors,
-        turn,
-        white,
-        black,
-        passant,
-    }
-}
+ghost use Rattle.board.specs.inner.Gates.{Kept, boardedOf, unmakeGate, replayGate, replayedBoard};
 
 // The board of an answer: union, checkers and pins are worked out afresh.
-fn boarded(t: &[u64; 4096], u: Unmade) -> Boarded
-    requires { ⌜ IsBetween (now t) × Sound u ⌝ }
+fn boarded(t: &[u64; 4096], u: Positioned) -> Boarded
+    requires { ⌜ IsBetween (now t) × Kept (u .verdict) (u .position) ⌝ }
     ensures { λ r. ⌜ r ≡ boardedOf u ⌝ }
 {
     let v = u.verdict;
     let p = u.position;
-    let pieces = p.pieces;
-    let colors = p.colors;
-    let turn = p.turn;
-    let white = p.white;
-    let black = p.black;
-    let passant = p.passant;
-    super::worked_after(t, v, pieces, colors, turn, white, black, passant)
+    super::worked_after(t, v, p)
 }
 
 // Refusals 1 to 5 and 7: the move that is replayed may leave a check.
@@ -50,14 +23,9 @@ pub fn replay_gate(t: &[u64; 4096], b: RetractableBoard) -> Verdict
     requires { ⌜ IsBetween (now t) ⌝ }
     ensures { λ v. ⌜ v ≡ replayGate b ⌝ }
 {
-    let pieces = b.pieces;
-    let colors = b.colors;
-    let turn = b.turn;
-    let white = b.white;
-    let black = b.black;
-    let passant = b.passant;
-    let v = accept::inner::five(pieces, colors, turn, white, black, passant);
-    super::stale_after(t, v, pieces, colors, turn, b.combined, b.checkers, b.pinned)
+    let p = super::position_of(b);
+    let v = accept::inner::five(p);
+    super::stale_after(t, v, b)
 }
 
 // What un-make refuses: 1 to 7, then 9 to 12 of the position.
@@ -69,7 +37,7 @@ pub fn unmake_gate(t: &[u64; 4096], b: RetractableBoard, r: ChessRetraction) -> 
     match v {
         Verdict::Refused(w) => Verdict::Refused(w),
         Verdict::Accepted => {
-            let p = placed(b);
+            let p = super::position_of(b);
             let u = unmake::inner::unmake(t, p, r);
             u.verdict
         }
@@ -85,7 +53,7 @@ pub fn replayed(t: &[u64; 4096], b: RetractableBoard, r: ChessRetraction, kind: 
     match v {
         Verdict::Refused(w) => super::board_by(Verdict::Refused(w), super::super::no_board()),
         Verdict::Accepted => {
-            let p = placed(b);
+            let p = super::position_of(b);
             let u = replay::inner::replay(t, p, r, kind);
             boarded(t, u)
         }

@@ -1,7 +1,7 @@
 -- `desks::drop` meets its contract.
 use mathlib.Core.Path.{refl, sym, _∙_}
-use Rattle.accept.specs.declared.Verdict.the-variants.{Accepted}
-use Rattle.accept.specs.Said.{firstFailing}
+use Rattle.refusal.specs.declared.Verdict.the-variants.{Accepted}
+use Rattle.refusal.specs.Said.{firstFailing}
 use Rattle.desks.specs.Desks.{drop}
 use Rattle.desks.proofs.Standing.{refused, has-places, answered}
 use borrow.Author.Needs.{needs}

@@ -6,7 +6,7 @@ ghost use mathlib.Core.Path.{_≡_};
 ghost use Prim.Native.Nat.{_<_, _+_, _≤_};
 ghost use lib.ListN.{length};
 ghost use Rattle.laws.specs.Boards.{menAt};
-ghost use Rattle.feed.specs.Appending.{Adds};
+ghost use Rattle.output.specs.Appending.{Adds};
 ghost use Rattle.drawing.specs.Diagrams.{shownAs, markAt, squareText, squaresText, rankText, ranksText, diagramOf};
 ghost use Rattle.drawing.specs.Diagrams.{drawingOf};
 
@@ -17,7 +17,7 @@ fn letter(d: Drawing, k: u8) -> u8
 {
     let pieces = d.pieces;
     let colors = d.colors;
-    let letter = placement::inner::letter_at(pieces, colors, k);
+    let letter = men_field::inner::letter_at(pieces, colors, k);
     if letter == 0 { b'.' } else { letter }
 }
 

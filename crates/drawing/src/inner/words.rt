@@ -7,22 +7,22 @@ ghost use mathlib.Core.List.{_++_};
 ghost use Prim.Native.Nat.{_+_, _≤_};
 ghost use lib.ListN.{length};
 ghost use Rattle.geometry.specs.Colors.{opp};
-ghost use Rattle.feed.specs.Appending.{Adds};
-ghost use Rattle.report.specs.Report.{decimalOf, squareName};
-ghost use Rattle.drawing.specs.Words.{sideName, nameOf, wayText, passes, filesApart, castles, deedText, becomingText, verdictText, movedKind, subjectText, wordsOf};
-ghost use Rattle.drawing.specs.Words.{sourceKind};
+ghost use Rattle.output.specs.Appending.{Adds};
+ghost use Rattle.rows.specs.Rows.{decimalOf};
+ghost use Rattle.men_field.specs.Placement.{squareName};
+ghost use Rattle.drawing.specs.Words.{sideName, nameOf, wayText, passes, filesApart, castles, deedText, becomingText, verdictText, movedKind, subjectText, wordsOf, sourceKind};
 
 // Bytes behind the first `len`.
 pub fn put(out: &mut [u8], len: usize, bytes: &[u8]) -> usize
     ensures { λ r. ⌜ Adds (now (out .entry)) len (now (bytes .entry)) r (now (out .exit)) ⌝ }
 {
-    feed::put_bytes(out, len, bytes).used(len)
+    output::put_bytes(out, len, bytes).used(len)
 }
 
 fn put_number(out: &mut [u8], len: usize, x: u64) -> usize
     ensures { λ r. ⌜ Adds (now (out .entry)) len (decimalOf x) r (now (out .exit)) ⌝ }
 {
-    feed::put_decimal(out, len, x).used(len)
+    output::put_decimal(out, len, x).used(len)
 }
 
 // Words, and a number of at most 20 digits behind them.

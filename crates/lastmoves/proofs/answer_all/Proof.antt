@@ -1,18 +1,16 @@
 -- `lastmoves::answer_all` meets its contract.
 use borrow.Author.Needs.{needs}
-use mathlib.Core.Path.{_≡_}
-use Prim.Native.Nat.{_≤_}
+use Prim.Native.Nat.{_-_}
 use native.Mathlib.Omega.{arith}
-use lib.ListN.{length}
-use Rattle.feed.proofs.Searched.{line-short}
+use Rattle.input.proofs.Searched.{line-short}
 use Rattle.lastmoves.proofs.answer_all.Statement.{statement}
 use Rattle.lastmoves.proofs.answer_all.Tie as tie
 
 abbrev Inv-loop : tie.InvT-loop
-Inv-loop chunk₀ line₀ listed₀ strict₀ out₀ c₀ turns₀ t11 t12 chunk line listed strict out c turns = Unit {0}
+Inv-loop chunk₀ line₀ listed₀ strict₀ out₀ c₀ t10 t11 counter₀ chunk line listed strict out c counter = Unit {0}
 
 abbrev μ-loop : tie.MeasureT-loop
-μ-loop chunk₀ line₀ listed₀ strict₀ out₀ c₀ turns₀ t11 t12 chunk line listed strict out c turns = turns
+μ-loop chunk₀ line₀ listed₀ strict₀ out₀ c₀ t10 t11 counter₀ chunk line listed strict out c counter = 18446744073709551615 - counter
 
 start-requires : tie.Need-start-requires Inv-loop μ-loop
 start-requires c κs = search needs
@@ -45,7 +43,7 @@ enum-known-s : tie.Need-enum-known-s Inv-loop μ-loop
 enum-known-s c = search needs
 
 answer-line-requires : tie.Need-answer-line-requires Inv-loop μ-loop
-answer-line-requires c κs = let k : c .before .before .before .before .before .before .s .given .0 .0 ≤ 512 = line-short _ _ _ _ _ _ (c .before .before .before .before .before .before .before .before .next .ensures) _ _ _ (c .before .before .before .before .before .before .s .given .1) in let e : length (c .before .before .before .before .before .before .before .before .next .last .1 .0) ≡ 512 = search needs in omega arith
+answer-line-requires c κs = line-short _ _ _ _ _ _ (c .before .before .before .before .before .before .before .next .ensures) _ _ _ (c .before .before .before .before .before .s .given .1)
 
 slice-aggregate-write-all-2 : tie.Need-slice-aggregate-write-all-2 Inv-loop μ-loop
 slice-aggregate-write-all-2 c = search needs
@@ -56,8 +54,8 @@ write-all-requires-2 c κs = search needs
 returns-3 : tie.Need-returns-3 Inv-loop μ-loop
 returns-3 c = search needs
 
-sub-turns : tie.Need-sub-turns Inv-loop μ-loop
-sub-turns c = omega arith
+add-counter : tie.Need-add-counter Inv-loop μ-loop
+add-counter c = omega arith
 
 loop-less : tie.Need-loop-less Inv-loop μ-loop
 loop-less c = omega arith
@@ -88,7 +86,7 @@ answer-all-spec =
     slice-aggregate-write-all-2
     write-all-requires-2
     returns-3
-    sub-turns
+    add-counter
     loop-less
     loop-again
     returns-4)

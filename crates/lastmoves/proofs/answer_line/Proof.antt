@@ -1,12 +1,13 @@
 -- `lastmoves::answer_line` meets its contract.
 use mathlib.Core.Path.{sym}
+use native.Mathlib.Omega.{arith}
 use lib.Seq.{length-take-le}
 use borrow.Author.Needs.{needs}
 use Rattle.lastmoves.proofs.answer_line.Statement.{statement}
 use Rattle.lastmoves.proofs.answer_line.Tie as tie
 
 slice-aggregate-reply : tie.Need-slice-aggregate-reply
-slice-aggregate-reply c = sym (length-take-le _ _ (c .before .before .pre))
+slice-aggregate-reply c = sym (length-take-le _ _ (omega arith))
 
 reply-requires : tie.Need-reply-requires
 reply-requires c κs = search needs

@@ -1,14 +1,22 @@
 -- `limited::side` meets its contract.
-use Rattle.limited.proofs.Fitting.{side-full, side-held}
 use borrow.Author.Needs.{needs}
+use Rattle.retraction_gen.specs.Making.{masksOn}
+use Rattle.view.proofs.Seen.{ready}
+use Rattle.limited.proofs.Fitting.{side-full, side-held}
 use Rattle.limited.proofs.side.Statement.{statement}
 use Rattle.limited.proofs.side.Tie as tie
 
-officer-list-requires : tie.Need-officer-list-requires
-officer-list-requires c κs = search needs
+seen-requires : tie.Need-seen-requires
+seen-requires c κs = search needs
+
+all-but-pawns-requires : tie.Need-all-but-pawns-requires
+all-but-pawns-requires c κs = rw (c .seen .ensures) (ready _ _ _ _ _ (c .before .pre))
 
 returns : tie.Need-returns
-returns c = let a = c .before .before .before .before .args in side-full (a .b) (a .turn) (a .passant) _ (c .before .officer-list .ensures) (c .if1 .taken)
+returns c = side-full (c .before .before .before .args .b) _ (rw (c .before .before .seen .ensures) at (c .before .all-but-pawns .ensures)) (c .if1 .taken)
+
+position-of-requires : tie.Need-position-of-requires
+position-of-requires c κs = search needs
 
 candidates-requires : tie.Need-candidates-requires
 candidates-requires c κs = search needs
@@ -26,17 +34,21 @@ enum-told-2 : tie.Need-enum-told-2
 enum-told-2 c = search needs
 
 returns-2 : tie.Need-returns-2
-returns-2 c = side-held _ _ _ _ (c .before .before .before .before .before .before .officer-list .ensures) _ _ _ (c .before .before .before .before .before .if1 .left) (c .before .before .before .before .candidates .ensures) (rw (c .before .before .before .started .ensures) at (c .before .before .next .ensures)) (c .enum-told .given .1)
+unfolding masksOn
+returns-2 c = side-held _ _ (rw (c .before .before .before .before .before .before .before .before .seen .ensures) at (c .before .before .before .before .before .before .before .all-but-pawns .ensures)) _ _ _ (c .before .before .before .before .before .before .if1 .left) (rw (c .before .before .before .before .before .position-of .ensures) at (c .before .before .before .before .candidates .ensures)) (rw (c .before .before .before .started .ensures) at (c .before .before .next .ensures)) (c .enum-told .given .1)
 
 returns-3 : tie.Need-returns-3
-returns-3 c = side-held _ _ _ _ (c .before .before .before .before .before .before .officer-list .ensures) _ _ _ (c .before .before .before .before .before .if1 .left) (c .before .before .before .before .candidates .ensures) (rw (c .before .before .before .started .ensures) at (c .before .before .next .ensures)) (c .enum-told2 .given .1)
+unfolding masksOn
+returns-3 c = side-held _ _ (rw (c .before .before .before .before .before .before .before .before .seen .ensures) at (c .before .before .before .before .before .before .before .all-but-pawns .ensures)) _ _ _ (c .before .before .before .before .before .before .if1 .left) (rw (c .before .before .before .before .before .position-of .ensures) at (c .before .before .before .before .candidates .ensures)) (rw (c .before .before .before .started .ensures) at (c .before .before .next .ensures)) (c .enum-told2 .given .1)
 
 pub side-spec : {M : Type 1} → statement M
 side-spec =
     tie.close
     (tie.spec
-    officer-list-requires
+    seen-requires
+    all-but-pawns-requires
     returns
+    position-of-requires
     candidates-requires
     started-requires
     next-requires

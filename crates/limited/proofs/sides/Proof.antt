@@ -19,23 +19,23 @@ enum-known-first c = search needs
 enum-told-2 : tie.Need-enum-told-2
 enum-told-2 c = search needs
 
-other-requires : tie.Need-other-requires
-other-requires c κs = search needs
+flip-requires : tie.Need-flip-requires
+flip-requires c κs = search needs
 
 side-requires-2 : tie.Need-side-requires-2
 side-requires-2 c κs = search needs
 
 returns : tie.Need-returns
 unfolding sidesOf
-returns c = side-then _ _ _ _ Yes (ap limitedSays (sym (c .enum-told .given .1)) ∙ c .before .before .side .ensures)
+returns c = side-then _ _ Yes (ap limitedSays (sym (c .enum-told .given .1)) ∙ c .before .before .side .ensures)
 
 returns-2 : tie.Need-returns-2
 unfolding sidesOf
-returns-2 c = side-then _ _ _ _ (Refused (c .before .first .given .0 .0)) (ap limitedSays (sym (c .before .first .given .1)) ∙ c .before .before .before .side .ensures)
+returns-2 c = side-then _ _ (Refused (c .before .first .given .0 .0)) (ap limitedSays (sym (c .before .first .given .1)) ∙ c .before .before .before .side .ensures)
 
 returns-3 : tie.Need-returns-3
 unfolding sidesOf
-returns-3 c = rw (c .side2 .ensures, c .before .other .ensures) (side-then _ _ _ _ No (ap limitedSays (sym (c .before .before .enum-told2 .given .1)) ∙ c .before .before .before .before .side .ensures))
+returns-3 c = rw (c .side2 .ensures, c .before .flip .ensures) (side-then _ _ No (ap limitedSays (sym (c .before .before .enum-told2 .given .1)) ∙ c .before .before .before .before .side .ensures))
 
 pub sides-spec : {M : Type 1} → statement M
 sides-spec =
@@ -45,7 +45,7 @@ sides-spec =
     enum-told
     enum-known-first
     enum-told-2
-    other-requires
+    flip-requires
     side-requires-2
     returns
     returns-2

@@ -18,6 +18,9 @@ enum-known-v c = search needs
 enum-told : tie.Need-enum-told
 enum-told c = search needs
 
+position-of-requires : tie.Need-position-of-requires
+position-of-requires c κs = search needs
+
 candidates-requires : tie.Need-candidates-requires
 candidates-requires c κs = search needs
 
@@ -26,9 +29,17 @@ returns c = masked-refused _ _ (c .before .before .before .gate .ensures) _ _ (c
 
 returns-2 : tie.Need-returns-2
 unfolding masksOn
-returns-2 c = masked-on _ _ (c .before .before .before .before .before .gate .ensures) _ (c .before .before .before .enum-told .given .1) (refl, c .candidates .ensures)
+returns-2 c = masked-on _ _ (c .before .before .before .before .gate .ensures) _ (c .before .before .enum-told .given .1) (refl, rw (c .before .position-of .ensures) at (c .candidates .ensures))
 
 pub uncaptured-candidates-spec : {M : Type 1} → statement M
 uncaptured-candidates-spec =
     tie.close
-    (tie.spec between-table-requires gate-requires enum-known-v enum-told candidates-requires returns returns-2)
+    (tie.spec
+    between-table-requires
+    gate-requires
+    enum-known-v
+    enum-told
+    position-of-requires
+    candidates-requires
+    returns
+    returns-2)

@@ -3,7 +3,7 @@ use native.Mathlib.Omega.{arith}
 use borrow.Author.Needs.{needs}
 use Rattle.drawing.specs.Words.{bytesIn}
 use Rattle.text.proofs.Printing.{printing-tells}
-use Rattle.answer.proofs.Shown.{text-short, never-room}
+use Rattle.reply.proofs.Shown.{text-short, never-room}
 use Rattle.drawing.proofs.Chained.{ends}
 use Rattle.screen.proofs.Screened.{opening-shown, refusal-shown}
 use Rattle.screen.proofs.opening.Statement.{statement}

@@ -4,7 +4,7 @@ ghost use Prim.Native.Nat.{_<_};
 ghost use Rattle.squares.specs.Squares.{setOf};
 ghost use Rattle.geometry.specs.Lines.{line};
 ghost use Rattle.geometry.specs.Steps.{slideLine};
-ghost use Rattle.sliding.specs.Diagonals.{rising, falling, ranked};
+ghost use Rattle.sliding.specs.inner.Diagonals.{rising, falling, ranked};
 
 // Two squares stand on a diagonal that rises to the right.
 fn rises(a: u8, b: u8) -> bool

@@ -1,6 +1,6 @@
 // A set with its ranks in the opposite order, or with all of its squares, by exchanges of halves.
 ghost use mathlib.Core.Path.{_≡_};
-ghost use Rattle.sliding.specs.Seen.{Halves, turn, flipped, mirrored, moved};
+ghost use Rattle.sliding.specs.inner.Seen.{Halves, turn, flipped, mirrored, moved};
 
 // Each square changes places with the one n away; m has the lower of each two.
 fn swap(s: u64, m: u64, n: u8) -> u64

@@ -4,7 +4,7 @@ use native.Mathlib.Omega.{arith}
 use lib.ListN.{length}
 use borrow.Author.Needs.{needs}
 use denote.Ref.{now}
-use Rattle.listing.proofs.Telling.{listing-tells}
+use Rattle.slots.proofs.Telling.{listing-tells}
 use Rattle.step.proofs.listed.Statement.{statement}
 use Rattle.step.proofs.listed.Tie as tie
 

@@ -1,15 +1,16 @@
 -- `step::show_all` meets its contract.
+use Prim.Native.Nat.{_-_}
 use native.Mathlib.Omega.{arith}
 use borrow.Author.Needs.{needs}
-use Rattle.feed.proofs.Searched.{line-short}
+use Rattle.input.proofs.Searched.{line-short}
 use Rattle.step.proofs.show_all.Statement.{statement}
 use Rattle.step.proofs.show_all.Tie as tie
 
 abbrev Inv-loop : tie.InvT-loop
-Inv-loop chunk₀ line₀ strict₀ out₀ c₀ turns₀ chunk line strict out c turns = Unit {0}
+Inv-loop chunk₀ line₀ strict₀ out₀ c₀ counter₀ chunk line strict out c counter = Unit {0}
 
 abbrev μ-loop : tie.MeasureT-loop
-μ-loop chunk₀ line₀ strict₀ out₀ c₀ turns₀ chunk line strict out c turns = turns
+μ-loop chunk₀ line₀ strict₀ out₀ c₀ counter₀ chunk line strict out c counter = 18446744073709551615 - counter
 
 loop-holds : tie.Need-loop-holds Inv-loop μ-loop
 loop-holds c = tt
@@ -41,8 +42,8 @@ show-requires c κs = line-short _ _ _ _ _ _ (c .before .before .before .before 
 returns-3 : tie.Need-returns-3 Inv-loop μ-loop
 returns-3 c = search needs
 
-sub-turns : tie.Need-sub-turns Inv-loop μ-loop
-sub-turns c = omega arith
+add-counter : tie.Need-add-counter Inv-loop μ-loop
+add-counter c = omega arith
 
 loop-less : tie.Need-loop-less Inv-loop μ-loop
 loop-less c = omega arith
@@ -69,7 +70,7 @@ show-all-spec =
     enum-known-s
     show-requires
     returns-3
-    sub-turns
+    add-counter
     loop-less
     loop-again
     returns-4)

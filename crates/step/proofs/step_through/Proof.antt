@@ -1,14 +1,15 @@
 -- `step::step_through` meets its contract.
+use Prim.Native.Nat.{_-_}
 use native.Mathlib.Omega.{arith}
 use borrow.Author.Needs.{needs}
 use Rattle.step.proofs.step_through.Statement.{statement}
 use Rattle.step.proofs.step_through.Tie as tie
 
 abbrev Inv-loop : tie.InvT-loop
-Inv-loop by-key chunk₀ line₀ strict out₀ s₀ c₀ turns₀ chunk line out s c turns = Unit {0}
+Inv-loop by-key chunk₀ line₀ strict out₀ s₀ c₀ counter₀ chunk line out s c counter = Unit {0}
 
 abbrev μ-loop : tie.MeasureT-loop
-μ-loop by-key chunk₀ line₀ strict out₀ s₀ c₀ turns₀ chunk line out s c turns = turns
+μ-loop by-key chunk₀ line₀ strict out₀ s₀ c₀ counter₀ chunk line out s c counter = 18446744073709551615 - counter
 
 loop-holds : tie.Need-loop-holds Inv-loop μ-loop
 loop-holds c = tt
@@ -55,8 +56,8 @@ left-at-requires-4 c κs = search needs
 returns-4 : tie.Need-returns-4 Inv-loop μ-loop
 returns-4 c = search needs
 
-sub-turns : tie.Need-sub-turns Inv-loop μ-loop
-sub-turns c = omega arith
+add-counter : tie.Need-add-counter Inv-loop μ-loop
+add-counter c = omega arith
 
 loop-less : tie.Need-loop-less Inv-loop μ-loop
 loop-less c = omega arith
@@ -91,7 +92,7 @@ step-through-spec =
     is-end-requires
     left-at-requires-4
     returns-4
-    sub-turns
+    add-counter
     loop-less
     loop-again
     left-at-requires-5

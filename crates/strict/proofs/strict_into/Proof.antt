@@ -1,6 +1,6 @@
 -- `strict::strict_into` meets its contract.
 use mathlib.Core.Path.{sym, _∙_}
-use Rattle.strict.proofs.Told.{listed-told, listed-refused}
+use Rattle.strict.proofs.Told.{listed-refused}
 use borrow.Author.Needs.{needs}
 use Rattle.strict.proofs.strict_into.Statement.{statement}
 use Rattle.strict.proofs.strict_into.Tie as tie
@@ -17,11 +17,8 @@ enum-known-v c = search needs
 enum-told : tie.Need-enum-told
 enum-told c = search needs
 
-today-requires : tie.Need-today-requires
-today-requires c κs = sym (c .before .before .gate .ensures) ∙ c .enum-told .given .1
-
 list-requires : tie.Need-list-requires
-list-requires c κs = (c .before .before .before .before .before .before .before .between-table .ensures, c .before .before .today .ensures .1)
+list-requires c κs = (c .before .before .before .before .before .before .between-table .ensures, sym (c .before .before .before .before .gate .ensures) ∙ c .before .before .enum-told .given .1)
 
 returns : tie.Need-returns
 returns c = listed-refused _ _ (sym (c .before .before .before .gate .ensures) ∙ c .before .v .given .1) _
@@ -30,7 +27,7 @@ same-length : tie.Need-same-length
 same-length c = search needs
 
 returns-2 : tie.Need-returns-2
-returns-2 c = listed-told _ (c .before .before .list .result) (sym (c .before .before .before .before .before .before .before .before .gate .ensures) ∙ c .before .before .before .before .before .before .enum-told .given .1) (rw (c .before .before .before .before .before .today .ensures .0) at (c .before .before .list .ensures))
+returns-2 c = search needs
 
 pub strict-into-spec : {M : Type 1} → statement M
 strict-into-spec =
@@ -40,7 +37,6 @@ strict-into-spec =
     gate-requires
     enum-known-v
     enum-told
-    today-requires
     list-requires
     returns
     same-length

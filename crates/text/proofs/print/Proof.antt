@@ -1,6 +1,6 @@
 -- `text::print` meets its contract.
-use borrow.Author.Needs.{needs}
 use Rattle.text.proofs.Printing.{not-printed, printed-so}
+use borrow.Author.Needs.{needs}
 use Rattle.text.proofs.print.Statement.{statement}
 use Rattle.text.proofs.print.Tie as tie
 
@@ -16,11 +16,8 @@ enum-known-v c = search needs
 enum-told : tie.Need-enum-told
 enum-told c = search needs
 
-line-of-requires : tie.Need-line-of-requires
-line-of-requires c κs = search needs
-
-copy-requires : tie.Need-copy-requires
-copy-requires c κs = search needs
+print-requires : tie.Need-print-requires
+print-requires c κs = search needs
 
 told-requires : tie.Need-told-requires
 told-requires c κs = search needs
@@ -32,7 +29,7 @@ same-length : tie.Need-same-length
 same-length c = search needs
 
 returns-2 : tie.Need-returns-2
-returns-2 c = printed-so _ _ (c .before .before .before .before .before .before .before .before .before .before .gate .ensures) _ (c .before .before .before .copy .result) (c .told .result) (c .before .before .before .before .before .before .before .before .enum-told .given .1) (c .before .before .before .before .before .line-of .ensures .0 .text) (c .before .before .before .copy .ensures) (c .told .ensures)
+returns-2 c = printed-so _ _ (c .before .before .before .before .before .before .before .gate .ensures) (c .before .before .before .print .result) (c .told .result) (c .before .before .before .before .before .enum-told .given .1) (c .before .before .before .print .ensures) (c .told .ensures)
 
 pub print-spec : {M : Type 1} → statement M
 print-spec =
@@ -42,8 +39,7 @@ print-spec =
     gate-requires
     enum-known-v
     enum-told
-    line-of-requires
-    copy-requires
+    print-requires
     told-requires
     returns
     same-length

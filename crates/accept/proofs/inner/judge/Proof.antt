@@ -1,13 +1,12 @@
 -- `accept::inner::judge` meets its contract.
 use mathlib.Core.Path.{_∙_, sym, _≡_}
 use lib.ListN.{getD, length}
-use borrow.Author.Needs.{needs}
-use Rattle.laws.specs.Positions.{rightsOf}
 use Rattle.accept.specs.Verdicts.{judgedOf}
 use mir.Val.{Fits}
 use mir.Syntax.{w64}
 use Rattle.laws.proofs.Cleaning.{clean}
 use Rattle.accept.proofs.Numbered.{five-passes}
+use borrow.Author.Needs.{needs}
 use Rattle.accept.proofs.inner.judge.Statement.{statement}
 use Rattle.accept.proofs.inner.judge.Tie as tie
 
@@ -21,11 +20,11 @@ enum-told : tie.Need-enum-told
 enum-told c = search needs
 
 bad-check-requires : tie.Need-bad-check-requires
-bad-check-requires c κs = let p = five-passes (c .before .before .before .args .pieces) (c .before .before .before .args .colors) (c .before .before .before .args .turn) (rightsOf (c .before .before .before .args .white) (c .before .before .before .args .black)) (c .before .before .before .args .passant) (sym (c .before .before .five .ensures) ∙ c .enum-told .given .1) in (clean (c .before .before .before .args .pieces) (c .before .before .before .args .colors) (let e : length (c .before .before .before .args .pieces) ≡ 6 = search needs in e) (let e : length (c .before .before .before .args .colors) ≡ 2 = search needs in e) (λ i. let f : Fits w64 (getD (c .before .before .before .args .pieces) i 0) = search needs in f .fits) (λ i. let f : Fits w64 (getD (c .before .before .before .args .colors) i 0) = search needs in f .fits) (p .men-pass), p .kings-pass)
+bad-check-requires c κs = let p = c .before .before .before .before .before .args .p in let w = five-passes p (sym (c .before .before .before .before .five .ensures) ∙ c .before .before .enum-told .given .1) in (clean (p .pieces) (p .colors) (let e : length (p .pieces) ≡ 6 = search needs in e) (let e : length (p .colors) ≡ 2 = search needs in e) (λ i. let f : Fits w64 (getD (p .pieces) i 0) = search needs in f .fits) (λ i. let f : Fits w64 (getD (p .colors) i 0) = search needs in f .fits) (w .men-pass), w .passes .kings)
 
 returns : tie.Need-returns
 unfolding judgedOf
-returns c = rw (sym (c .before .before .before .before .five .ensures) ∙ c .before .before .enum-told .given .1, sym (c .before .bad-check .ensures) ∙ c .if1 .taken)
+returns c = rw (sym (c .before .before .before .before .before .before .five .ensures) ∙ c .before .before .before .before .enum-told .given .1, sym (c .before .bad-check .ensures) ∙ c .if1 .taken)
 
 returns-2 : tie.Need-returns-2
 unfolding judgedOf
@@ -33,7 +32,7 @@ returns-2 c = rw (sym (c .before .before .before .five .ensures) ∙ c .before .
 
 returns-3 : tie.Need-returns-3
 unfolding judgedOf
-returns-3 c = rw (sym (c .before .before .before .before .five .ensures) ∙ c .before .before .enum-told .given .1, sym (c .before .bad-check .ensures) ∙ c .if1 .left)
+returns-3 c = rw (sym (c .before .before .before .before .before .before .five .ensures) ∙ c .before .before .before .before .enum-told .given .1, sym (c .before .bad-check .ensures) ∙ c .if1 .left)
 
 pub judge-spec : {M : Type 1} → statement M
 judge-spec =

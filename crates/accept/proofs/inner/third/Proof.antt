@@ -1,7 +1,7 @@
 -- `accept::inner::third` meets its contract.
 use mathlib.Core.Path.{_∙_}
-use borrow.Author.Needs.{needs}
 use Rattle.accept.specs.Verdicts.{thirdOf}
+use borrow.Author.Needs.{needs}
 use Rattle.accept.proofs.inner.third.Statement.{statement}
 use Rattle.accept.proofs.inner.third.Tie as tie
 

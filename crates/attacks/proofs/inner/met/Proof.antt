@@ -1,7 +1,7 @@
 -- `attacks::inner::met` meets its contract.
 use mathlib.Core.Path.{refl}
 use borrow.Author.Needs.{needs}
-use Rattle.attacks.specs.Meeting.{metOf}
+use Rattle.attacks.specs.inner.Meeting.{metOf}
 use Rattle.attacks.proofs.inner.met.Statement.{statement}
 use Rattle.attacks.proofs.inner.met.Tie as tie
 

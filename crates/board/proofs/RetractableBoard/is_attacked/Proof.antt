@@ -8,14 +8,15 @@ use borrow.Author.Needs.{needs}
 use borrow.Author.Tests.{ltb-true}
 use Rattle.laws.specs.Attacks.{attacked}
 use Rattle.laws.specs.Boards.{Clean}
-use Rattle.accept.specs.declared.Verdict.{Verdict}
-use Rattle.accept.specs.Verdicts.{verdictNumber}
+use Rattle.refusal.specs.declared.Verdict.{Verdict}
+use Rattle.refusal.specs.Refusals.{verdictNumber}
 use Rattle.board.specs.declared.RetractableBoard.{RetractableBoard}
 use Rattle.board.specs.Gate.{menOn}
 use Rattle.board.specs.Said.{attackedSays}
-use Rattle.board.specs.Answers.{askTests, toldBy}
+use Rattle.board.specs.Answers.{askTests}
+use Rattle.board.specs.inner.Gates.{toldBy}
 use Rattle.board.proofs.Saying.{tells-by}
-use Rattle.board.proofs.Passing.{ask-number, ask-accepted, gate-clean}
+use Rattle.board.proofs.Passing.{ask-number, ask-accepted, gate-sound}
 use Rattle.board.proofs.RetractableBoard.is_attacked.Statement.{statement}
 use Rattle.board.proofs.RetractableBoard.is_attacked.Tie as tie
 
@@ -35,7 +36,7 @@ enum-told : tie.Need-enum-told
 enum-told c = search needs
 
 is-attacked-requires : tie.Need-is-attacked-requires
-is-attacked-requires c κs = let b = c .before .before .before .before .before .before .before .before .args .self in let sq = c .before .before .before .before .before .before .before .before .args .sq in let e : c .before .before .before .before .kept .result ≡ b = c .before .before .before .before .kept .ensures ∙ rw (c .before .before .enum-told .given .1) in let k = ask-accepted b sq (sym (c .before .before .before .before .before .ask-gate .ensures) ∙ c .before .before .enum-told .given .1) in (subst (λ (x : RetractableBoard). Clean (x .pieces) (x .colors)) (sym e) (gate-clean b (let e : length (b .pieces) ≡ 6 = search needs in e) (let e : length (b .colors) ≡ 2 = search needs in e) (λ i. let f : Fits w64 (getD (b .pieces) i 0) = search needs in f .fits) (λ i. let f : Fits w64 (getD (b .colors) i 0) = search needs in f .fits) (k .0) .0), omega (arith, ltb-true sq 64 (k .1)))
+is-attacked-requires c κs = let b = c .before .before .before .before .before .before .before .before .args .self in let sq = c .before .before .before .before .before .before .before .before .args .sq in let e : c .before .before .before .before .kept .result ≡ b = c .before .before .before .before .kept .ensures ∙ rw (c .before .before .enum-told .given .1) in let k = ask-accepted b sq (sym (c .before .before .before .before .before .ask-gate .ensures) ∙ c .before .before .enum-told .given .1) in (subst (λ (x : RetractableBoard). Clean (x .pieces) (x .colors)) (sym e) (gate-sound b (let e : length (b .pieces) ≡ 6 = search needs in e) (let e : length (b .colors) ≡ 2 = search needs in e) (λ i. let f : Fits w64 (getD (b .pieces) i 0) = search needs in f .fits) (λ i. let f : Fits w64 (getD (b .colors) i 0) = search needs in f .fits) (k .0) .clean), omega (arith, ltb-true sq 64 (k .1)))
 
 told-requires : tie.Need-told-requires
 told-requires c κs = search needs

@@ -5,7 +5,8 @@ use borrow.Author.Needs.{needs}
 use Rattle.board.specs.declared.Boarded.{Boarded}
 use Rattle.board.specs.Gate.{posOn, boardTests}
 use Rattle.board.specs.Said.{Boards}
-use Rattle.board.specs.Moving.{unmakeTests, unmakeGate, unmadeOn}
+use Rattle.board.specs.Moving.{unmakeTests, unmadeOn}
+use Rattle.board.specs.inner.Gates.{unmakeGate}
 use Rattle.board.proofs.Saying.{boards-by}
 use Rattle.board.proofs.Moving.{unmake-number}
 use Rattle.board.proofs.RetractableBoard.make_retraction_new.Statement.{statement}

@@ -1,11 +1,12 @@
 -- `board::RetractableBoard::replay` meets its contract.
 use borrow.Author.Needs.{needs}
-use Rattle.accept.specs.declared.Refusal.the-variants.{Step}
-use Rattle.accept.specs.declared.Verdict.the-variants.{Accepted}
-use Rattle.accept.specs.Verdicts.{unless, andThen}
+use Rattle.refusal.specs.declared.Refusal.the-variants.{Step}
+use Rattle.refusal.specs.declared.Verdict.the-variants.{Accepted}
+use Rattle.refusal.specs.Refusals.{unless, andThen}
 use Rattle.moves.specs.Stepping.{possibleFor}
 use Rattle.board.specs.Gate.{posOn}
-use Rattle.board.specs.Moving.{replayGate, replayTests, replayedOn}
+use Rattle.board.specs.inner.Gates.{replayGate}
+use Rattle.board.specs.Moving.{replayTests, replayedOn}
 use Rattle.board.proofs.Saying.{boards-by}
 use Rattle.board.proofs.Moving.{replay-number}
 use Rattle.board.proofs.RetractableBoard.replay.Statement.{statement}

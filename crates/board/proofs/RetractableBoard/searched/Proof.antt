@@ -1,6 +1,6 @@
 -- `board::RetractableBoard::searched` meets its contract.
-use borrow.Author.Needs.{needs}
 use Rattle.incremental.specs.Found.{foundStored}
+use borrow.Author.Needs.{needs}
 use Rattle.board.proofs.RetractableBoard.searched.Statement.{statement}
 use Rattle.board.proofs.RetractableBoard.searched.Tie as tie
 

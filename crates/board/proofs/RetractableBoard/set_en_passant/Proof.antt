@@ -1,6 +1,7 @@
 -- `board::RetractableBoard::set_en_passant` meets its contract.
 use borrow.Author.Needs.{needs}
-use Rattle.board.specs.Answers.{stateGate, stateTests, withPassant}
+use Rattle.board.specs.inner.Gates.{stateGate}
+use Rattle.board.specs.Answers.{stateTests, withPassant}
 use Rattle.board.proofs.Saying.{boards-by}
 use Rattle.board.proofs.Passing.{state-number}
 use Rattle.board.proofs.RetractableBoard.set_en_passant.Statement.{statement}

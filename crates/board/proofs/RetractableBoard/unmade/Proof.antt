@@ -6,8 +6,8 @@ use mir.Val.{Fits}
 use borrow.Author.Needs.{needs}
 use Rattle.unmake.specs.Retracted.{unmadeTo}
 use Rattle.board.specs.Gate.{posOn, gateOf}
-use Rattle.accept.proofs.Numbered.{both-accept}
-use Rattle.board.proofs.Passing.{gate-clean}
+use Rattle.refusal.proofs.Saying.{both-accept}
+use Rattle.board.proofs.Passing.{gate-sound}
 use Rattle.board.proofs.Moving.{source-on, moved-sound, searched-is}
 use Rattle.board.proofs.RetractableBoard.unmade.Statement.{statement}
 use Rattle.board.proofs.RetractableBoard.unmade.Tie as tie
@@ -16,10 +16,10 @@ moved-requires : tie.Need-moved-requires
 moved-requires c κs = let b = c .args .self in let r = c .args .r in let k = both-accept (gateOf b) (unmadeTo (posOn b) r .verdict) (c .pre .1) in source-on b r (k .0) (k .1)
 
 searched-requires : tie.Need-searched-requires
-searched-requires c κs = let b = c .before .args .self in let r = c .before .args .r in let k = both-accept (gateOf b) (unmadeTo (posOn b) r .verdict) (c .before .pre .1) in let s = moved-sound b r (k .0) (k .1) (gate-clean b (let e : length (b .pieces) ≡ 6 = search needs in e) (let e : length (b .colors) ≡ 2 = search needs in e) (λ i. let f : Fits w64 (getD (b .pieces) i 0) = search needs in f .fits) (λ i. let f : Fits w64 (getD (b .colors) i 0) = search needs in f .fits) (k .0) .0) (c .moved .result) (c .moved .ensures) in (c .before .pre .0, s .0, s .1)
+searched-requires c κs = let b = c .before .args .self in let r = c .before .args .r in let k = both-accept (gateOf b) (unmadeTo (posOn b) r .verdict) (c .before .pre .1) in let s = moved-sound b r (k .0) (k .1) (gate-sound b (let e : length (b .pieces) ≡ 6 = search needs in e) (let e : length (b .colors) ≡ 2 = search needs in e) (λ i. let f : Fits w64 (getD (b .pieces) i 0) = search needs in f .fits) (λ i. let f : Fits w64 (getD (b .colors) i 0) = search needs in f .fits) (k .0) .clean) (c .moved .result) (c .moved .ensures) in (c .before .pre .0, s)
 
 returns : tie.Need-returns
-returns c = let b = c .before .before .args .self in let r = c .before .before .args .r in let k = both-accept (gateOf b) (unmadeTo (posOn b) r .verdict) (c .before .before .pre .1) in searched-is b r (k .0) (k .1) (gate-clean b (let e : length (b .pieces) ≡ 6 = search needs in e) (let e : length (b .colors) ≡ 2 = search needs in e) (λ i. let f : Fits w64 (getD (b .pieces) i 0) = search needs in f .fits) (λ i. let f : Fits w64 (getD (b .colors) i 0) = search needs in f .fits) (k .0) .0) (c .before .moved .result) (c .before .moved .ensures) (c .searched .result) (c .searched .ensures)
+returns c = let b = c .before .before .args .self in let r = c .before .before .args .r in let k = both-accept (gateOf b) (unmadeTo (posOn b) r .verdict) (c .before .before .pre .1) in searched-is b r (k .0) (k .1) (gate-sound b (let e : length (b .pieces) ≡ 6 = search needs in e) (let e : length (b .colors) ≡ 2 = search needs in e) (λ i. let f : Fits w64 (getD (b .pieces) i 0) = search needs in f .fits) (λ i. let f : Fits w64 (getD (b .colors) i 0) = search needs in f .fits) (k .0) .clean) (c .before .moved .result) (c .before .moved .ensures) (c .searched .result) (c .searched .ensures)
 
 pub unmade-spec : {M : Type 1} → statement M
 unmade-spec = tie.close (tie.spec moved-requires searched-requires returns)

@@ -3,8 +3,7 @@ use mathlib.Core.Path.{_≡_, _∙_, sym}
 use lib.ListN.{getD, length}
 use mir.Val.{Fits}
 use mir.Syntax.{w64}
-use Rattle.laws.specs.Positions.{rightsOf}
-use Rattle.board.proofs.Moving.{five-clean}
+use Rattle.board.proofs.Passing.{five-sound}
 use borrow.Author.Needs.{needs}
 use Rattle.board.proofs.inner.earlier_from.Statement.{statement}
 use Rattle.board.proofs.inner.earlier_from.Tie as tie
@@ -13,7 +12,7 @@ five-requires : tie.Need-five-requires
 five-requires c κs = search needs
 
 worked-after-requires : tie.Need-worked-after-requires
-worked-after-requires c κs = let a = c .before .args in (c .before .pre, λ h. five-clean (a .pieces) (a .colors) (a .turn) (rightsOf (a .white) (a .black)) (a .passant) (let e : length (a .pieces) ≡ 6 = search needs in e) (let e : length (a .colors) ≡ 2 = search needs in e) (λ i. let f : Fits w64 (getD (a .pieces) i 0) = search needs in f .fits) (λ i. let f : Fits w64 (getD (a .colors) i 0) = search needs in f .fits) (sym (c .five .ensures) ∙ h))
+worked-after-requires c κs = let b = c .before .args .p in (c .before .pre, λ h. five-sound b (let e : length (b .pieces) ≡ 6 = search needs in e) (let e : length (b .colors) ≡ 2 = search needs in e) (λ i. let f : Fits w64 (getD (b .pieces) i 0) = search needs in f .fits) (λ i. let f : Fits w64 (getD (b .colors) i 0) = search needs in f .fits) (sym (c .five .ensures) ∙ h))
 
 returns : tie.Need-returns
 returns c = c .worked-after .ensures ∙ rw (c .before .five .ensures)

@@ -11,7 +11,7 @@ enum-told : tie.Need-enum-told
 enum-told c = search needs
 
 stale-requires : tie.Need-stale-requires
-stale-requires c κs = let k = c .before .before .pre .1 (c .enum-told .given .1) in (c .before .before .pre .0, k .0, k .1)
+stale-requires c κs = (c .before .before .pre .0, c .before .before .pre .1 (c .enum-told .given .1))
 
 returns : tie.Need-returns
 returns c = rw (c .before .before .enum-told .given .1, sym (c .before .stale .ensures) ∙ c .if1 .taken)

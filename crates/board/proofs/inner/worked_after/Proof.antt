@@ -17,7 +17,7 @@ enum-told : tie.Need-enum-told
 enum-told c = search needs
 
 worked-requires : tie.Need-worked-requires
-worked-requires c κs = let k = c .before .before .pre .1 (c .enum-told .given .1) in (c .before .before .pre .0, k .0, k .1)
+worked-requires c κs = (c .before .before .pre .0, c .before .before .pre .1 (c .enum-told .given .1))
 
 board-by-requires-2 : tie.Need-board-by-requires-2
 board-by-requires-2 c κs = search needs

@@ -2,7 +2,7 @@
 use mathlib.Core.Path.{_≡_, sym, _∙_}
 use borrow.Author.Tests.{lt-ltb, le-ltb, not-true, not-false}
 use native.Mathlib.Omega.{arith}
-use Rattle.desks.specs.Within.{standOf}
+use Rattle.desks.specs.inner.Within.{standOf}
 use Rattle.desks.proofs.Room.{fit-room}
 use borrow.Author.Needs.{needs}
 use Rattle.desks.proofs.inner.stand.Statement.{statement}

@@ -1,7 +1,7 @@
 -- `enumerate::inner::by_checkers` meets its contract.
 use borrow.Author.Tests.{lt-ltb, le-ltb}
 use borrow.Author.Needs.{needs}
-use Rattle.roll.specs.Roll.{pushedAll}
+use Rattle.retraction_list.specs.inner.Pushing.{pushedAll}
 use Rattle.enumerate.specs.Lists.{byCheckers}
 use Rattle.enumerate.proofs.inner.by_checkers.Statement.{statement}
 use Rattle.enumerate.proofs.inner.by_checkers.Tie as tie

@@ -2,7 +2,7 @@
 use borrow.Author.Tests.{eq-eqb, ne-eqb}
 use borrow.Author.Needs.{needs}
 use Rattle.enumerate.specs.Lists.{kindsOf}
-use Rattle.roll.proofs.Pushing.{pushed-both}
+use Rattle.retraction_list.proofs.Pushing.{pushed-both}
 use Rattle.enumerate.proofs.inner.kinds.Statement.{statement}
 use Rattle.enumerate.proofs.inner.kinds.Tie as tie
 

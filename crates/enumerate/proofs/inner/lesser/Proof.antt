@@ -1,7 +1,7 @@
 -- `enumerate::inner::lesser` meets its contract.
 use borrow.Author.Needs.{needs}
 use Rattle.enumerate.specs.Lists.{lesserOf}
-use Rattle.roll.proofs.Pushing.{pushed-both}
+use Rattle.retraction_list.proofs.Pushing.{pushed-both}
 use Rattle.enumerate.proofs.inner.lesser.Statement.{statement}
 use Rattle.enumerate.proofs.inner.lesser.Tie as tie
 

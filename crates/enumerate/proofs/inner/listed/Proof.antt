@@ -1,6 +1,6 @@
 -- `enumerate::inner::listed` meets its contract.
 use borrow.Author.Needs.{needs}
-use Rattle.enumerate.specs.Lists.{listedOf}
+use Rattle.enumerate.specs.Lists.{listOf}
 use Rattle.enumerate.proofs.inner.listed.Statement.{statement}
 use Rattle.enumerate.proofs.inner.listed.Tie as tie
 
@@ -26,15 +26,15 @@ by-checkers-requires-2 : tie.Need-by-checkers-requires-2
 by-checkers-requires-2 c κs = search needs
 
 returns : tie.Need-returns
-unfolding listedOf
+unfolding listOf
 returns c = rw (c .by-checkers .ensures, c .before .before .before .count .ensures, c .before .enum-told .given .1)
 
 returns-2 : tie.Need-returns-2
-unfolding listedOf
+unfolding listOf
 returns-2 c = rw (c .named .ensures, c .before .before .e .given .1)
 
 returns-3 : tie.Need-returns-3
-unfolding listedOf
+unfolding listOf
 returns-3 c = rw (c .by-checkers2 .ensures, c .before .before .before .count .ensures, c .before .enum-told2 .given .1)
 
 pub listed-spec : {M : Type 1} → statement M

@@ -1,7 +1,6 @@
 -- `enumerate::inner::named` meets its contract.
 use borrow.Author.Needs.{needs}
 use Rattle.enumerate.specs.Lists.{namedOf}
-use Rattle.enumerate.proofs.Ranks.{second-is}
 use Rattle.enumerate.proofs.inner.named.Statement.{statement}
 use Rattle.enumerate.proofs.inner.named.Tie as tie
 
@@ -22,7 +21,7 @@ put-requires c κs = search needs
 
 returns : tie.Need-returns
 unfolding namedOf
-returns c = rw (c .put .ensures, c .before .empty .ensures, c .before .before .get-rank .ensures, c .before .before .before .own-rank .ensures, c .before .before .before .before .get-file .ensures, second-is)
+returns c = rw (c .put .ensures, c .before .empty .ensures, c .before .before .get-rank .ensures, c .before .before .before .own-rank .ensures, c .before .before .before .before .get-file .ensures)
 
 pub named-spec : {M : Type 1} → statement M
 named-spec =

@@ -1,8 +1,8 @@
 -- `kings::inner::legals` meets its contract.
 use borrow.Author.Needs.{needs}
-use Rattle.roll.specs.Roll.{pushedAll}
+use Rattle.retraction_list.specs.inner.Pushing.{pushedAll}
 use Rattle.kings.specs.Kings.{kingOf}
-use Rattle.roll.proofs.Pushing.{pushed-both}
+use Rattle.retraction_list.proofs.Pushing.{pushed-both}
 use Rattle.kings.proofs.inner.legals.Statement.{statement}
 use Rattle.kings.proofs.inner.legals.Tie as tie
 

@@ -1,7 +1,7 @@
 -- `kings::inner::stepped` meets its contract.
 use borrow.Author.Needs.{needs}
 use Rattle.kings.specs.Kings.{steppedOf}
-use Rattle.roll.proofs.Pushing.{pushed-both}
+use Rattle.retraction_list.proofs.Pushing.{pushed-both}
 use Rattle.kings.proofs.inner.stepped.Statement.{statement}
 use Rattle.kings.proofs.inner.stepped.Tie as tie
 

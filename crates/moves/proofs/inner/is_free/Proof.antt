@@ -1,7 +1,7 @@
 -- `moves::inner::is_free` meets its contract.
 use mathlib.Core.Path.{_∙_}
 use borrow.Author.Needs.{needs}
-use Rattle.placing.specs.Placed.{menIn}
+use Rattle.laws.specs.Boards.{menIn}
 use Rattle.moves.proofs.Steps.{clear-is}
 use Rattle.moves.proofs.inner.is_free.Statement.{statement}
 use Rattle.moves.proofs.inner.is_free.Tie as tie

@@ -2,8 +2,9 @@
 use mathlib.Core.Path.{_∙_}
 use native.Mathlib.Omega.{arith}
 use borrow.Author.Needs.{needs}
-use Rattle.placing.specs.Placed.{menIn, colorBy}
-use Rattle.placing.proofs.Editing.{man-split}
+use Rattle.laws.specs.Boards.{menIn}
+use Rattle.position.specs.inner.Edits.{colorBy}
+use Rattle.position.proofs.Editing.{man-split}
 use Rattle.moves.proofs.Steps.{man-is, knight-goes, king-goes, slide-goes}
 use Rattle.moves.proofs.inner.man_moves.Statement.{statement}
 use Rattle.moves.proofs.inner.man_moves.Tie as tie

@@ -2,7 +2,7 @@
 use mathlib.Core.Path.{_∙_}
 use borrow.Author.Needs.{needs}
 use Rattle.squares.specs.Tests.{_and_, _or_}
-use Rattle.placing.specs.Placed.{menIn}
+use Rattle.laws.specs.Boards.{menIn}
 use Rattle.moves.proofs.Steps.{pawn-takes, pawn-goes}
 use Rattle.moves.proofs.inner.pawn_moves.Statement.{statement}
 use Rattle.moves.proofs.inner.pawn_moves.Tie as tie

@@ -3,9 +3,10 @@ use mathlib.Core.Path.{_∙_, ap}
 use native.Mathlib.Omega.{arith}
 use borrow.Author.Needs.{needs}
 use Rattle.geometry.specs.declared.Color.{Color}
-use Rattle.laws.specs.Men.{manNumber, manOf}
-use Rattle.placing.specs.Placed.{menIn, posAt, manWith}
-use Rattle.laws.proofs.Mans.{by-number}
+use Rattle.laws.specs.Men.{manNumber}
+use Rattle.laws.specs.Boards.{menIn, posAt}
+use Rattle.position.specs.inner.Edits.{manWith}
+use Rattle.position.proofs.Editing.{is-man}
 use Rattle.moves.proofs.Steps.{impossible, in-range, possible-is}
 use Rattle.moves.proofs.inner.possible.Statement.{statement}
 use Rattle.moves.proofs.inner.possible.Tie as tie
@@ -35,7 +36,7 @@ mark-ok-requires : tie.Need-mark-ok-requires
 mark-ok-requires c κs = let h = in-range (c .before .before .before .before .before .before .before .before .before .before .args .r .source) (c .before .before .before .before .before .before .before .before .before .before .args .r .target) (c .before .before .before .before .before .before .before .before .before .before .args .r .uncaptured) (c .before .before .before .before .before .before .if1 .left) in (c .before .before .before .before .before .man-at .ensures .1, h .0)
 
 goes-requires : tie.Need-goes-requires
-goes-requires c κs = let h = in-range (c .before .before .before .before .before .before .before .before .before .before .before .args .r .source) (c .before .before .before .before .before .before .before .before .before .before .before .args .r .target) (c .before .before .before .before .before .before .before .before .before .before .before .args .r .uncaptured) (c .before .before .before .before .before .before .before .if1 .left) in ((c .before .before .before .before .before .before .before .before .before .before .before .pre .0, c .before .before .before .before .before .before .before .before .before .before .before .pre .1), record { from-in = h .1; to-in = h .0; man-in = c .before .before .before .before .before .before .man-at .ensures .1; man-is = ap manOf (c .before .before .before .before .before .before .man-at .ensures .0) ∙ by-number (menIn (c .before .before .before .before .before .before .before .before .before .before .before .args .p) (c .before .before .before .before .before .before .before .before .before .before .before .args .r .target)) })
+goes-requires c κs = let h = in-range (c .before .before .before .before .before .before .before .before .before .before .before .args .r .source) (c .before .before .before .before .before .before .before .before .before .before .before .args .r .target) (c .before .before .before .before .before .before .before .before .before .before .before .args .r .uncaptured) (c .before .before .before .before .before .before .before .if1 .left) in ((c .before .before .before .before .before .before .before .before .before .before .before .pre .0, c .before .before .before .before .before .before .before .before .before .before .before .pre .1), record { from-in = h .1; to-in = h .0; man-in = c .before .before .before .before .before .before .man-at .ensures .1; man-is = is-man (menIn (c .before .before .before .before .before .before .before .before .before .before .before .args .p) (c .before .before .before .before .before .before .before .before .before .before .before .args .r .target)) (c .before .before .before .before .before .before .man-at .ensures .0) })
 
 returns-2 : tie.Need-returns-2
 returns-2 c = possible-is (posAt (c .before .before .before .before .before .before .before .before .before .before .before .before .args .p)) (c .before .before .before .before .before .before .before .before .before .before .before .before .args .r) (c .before .before .before .before .before .before .before .before .before .before .before .before .args .k) _ (in-range (c .before .before .before .before .before .before .before .before .before .before .before .before .args .r .source) (c .before .before .before .before .before .before .before .before .before .before .before .before .args .r .target) (c .before .before .before .before .before .before .before .before .before .before .before .before .args .r .uncaptured) (c .before .before .before .before .before .before .before .before .if1 .left)) (c .before .before .before .before .before .before .before .man-at .ensures .0) (c .before .before .before .before .before .before .man-at2 .ensures .0)

@@ -1,7 +1,7 @@
 -- `officers::inner::alone` meets its contract.
 use borrow.Author.Tests.{eq-eqb, ne-eqb}
 use borrow.Author.Needs.{needs}
-use Rattle.roll.specs.Roll.{pushedAll}
+use Rattle.retraction_list.specs.inner.Pushing.{pushedAll}
 use Rattle.officers.specs.Officers.{aloneOf}
 use Rattle.officers.proofs.inner.alone.Statement.{statement}
 use Rattle.officers.proofs.inner.alone.Tie as tie

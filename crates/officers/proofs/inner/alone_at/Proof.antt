@@ -4,7 +4,7 @@ use lib.Bits.{bitAnd}
 use borrow.Author.Needs.{needs}
 use Rattle.squares.specs.Members.{compl}
 use Rattle.officers.specs.Officers.{quietOf, aloneAt}
-use Rattle.roll.proofs.Pushing.{pushed-both}
+use Rattle.retraction_list.proofs.Pushing.{pushed-both}
 use Rattle.officers.proofs.inner.alone_at.Statement.{statement}
 use Rattle.officers.proofs.inner.alone_at.Tie as tie
 
@@ -36,7 +36,7 @@ returns : tie.Need-returns
 unfolding aloneAt
 returns c =
     let a = c .before .before .before .before .before .before .before .before .before .before .args in
-    let q : c .before .before .before .before .before .quiet .result ≡ quietOf (a .s) (a .kind) (bitAnd (a .s .combined) (compl (a .s .checkers))) = c .before .before .before .before .before .quiet .ensures in
+    let q : c .before .before .before .before .before .quiet .result ≡ quietOf (a .v) (a .kind) (bitAnd (a .v .combined) (compl (a .v .checkers))) = c .before .before .before .before .before .quiet .ensures in
     rw (c .offer2 .ensures, c .before .quiet2 .ensures, c .before .before .line .ensures, c .before .before .before .offer .ensures, c .before .before .before .before .capture-kind .ensures, q, c .before .before .before .before .before .before .before .before .has .ensures, c .before .before .before .before .before .before .before .before .before .steps .ensures) (pushed-both _ _ _)
 
 pub alone-at-spec : {M : Type 1} → statement M

@@ -2,7 +2,7 @@
 use borrow.Author.Tests.{eq-eqb, ne-eqb}
 use borrow.Author.Needs.{needs}
 use Rattle.officers.specs.Officers.{officerOf}
-use Rattle.roll.proofs.Pushing.{pushed-both}
+use Rattle.retraction_list.proofs.Pushing.{pushed-both}
 use Rattle.officers.proofs.inner.legals.Statement.{statement}
 use Rattle.officers.proofs.inner.legals.Tie as tie
 

@@ -1,7 +1,7 @@
 -- `officers::inner::onto` meets its contract.
 use borrow.Author.Needs.{needs}
 use Rattle.squares.specs.Tests.{_and_}
-use Rattle.roll.specs.Roll.{pushedAll}
+use Rattle.retraction_list.specs.inner.Pushing.{pushedAll}
 use Rattle.officers.specs.Officers.{ontoOf}
 use Rattle.officers.proofs.inner.onto.Statement.{statement}
 use Rattle.officers.proofs.inner.onto.Tie as tie

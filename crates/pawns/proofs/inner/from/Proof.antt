@@ -1,7 +1,7 @@
 -- `pawns::inner::from` meets its contract.
 use borrow.Author.Needs.{needs}
 use Rattle.pawns.specs.Pawns.{fromOf}
-use Rattle.roll.proofs.Pushing.{pushed-both}
+use Rattle.retraction_list.proofs.Pushing.{pushed-both}
 use Rattle.pawns.proofs.inner.from.Statement.{statement}
 use Rattle.pawns.proofs.inner.from.Tie as tie
 

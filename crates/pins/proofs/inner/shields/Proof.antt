@@ -3,6 +3,7 @@ use native.Mathlib.Omega.{arith}
 use borrow.Author.Needs.{needs}
 use Rattle.laws.specs.Attacks.{alone}
 use Rattle.laws.specs.Boards.{menAt}
+use Rattle.squares.proofs.Members.{lowest-lt}
 use Rattle.squares.proofs.Unions.{Uniting, unite-start, unite-turn, unite-less, unite-end}
 use Rattle.pins.proofs.inner.shields.Statement.{statement}
 use Rattle.pins.proofs.inner.shields.Tie as tie
@@ -20,7 +21,7 @@ lowest-requires : tie.Need-lowest-requires Inv-loop μ-loop
 lowest-requires c κs = search needs
 
 lone-requires : tie.Need-lone-requires Inv-loop μ-loop
-lone-requires c κs = (c .before .before .before .pre .0, c .before .before .before .pre .1, c .lowest .ensures .some (omega arith) .0, c .before .before .before .pre .2)
+lone-requires c κs = (c .before .before .before .pre .0, c .before .before .before .pre .1, lowest-lt (c .before .before .loop .inv .left-fits) (c .before .loop-test .taken) (c .lowest .ensures), c .before .before .before .pre .2)
 
 without-requires : tie.Need-without-requires Inv-loop μ-loop
 without-requires c κs = search needs

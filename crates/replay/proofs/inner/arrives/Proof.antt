@@ -2,9 +2,9 @@
 use mathlib.Core.Path.{_∙_}
 use native.Mathlib.Omega.{arith}
 use borrow.Author.Needs.{needs}
-use Rattle.placing.specs.Placed.{manWith}
-use Rattle.placing.proofs.Composing.{numbered-is}
-use Rattle.unmake.proofs.Answering.{is-man}
+use Rattle.position.specs.inner.Edits.{manWith}
+use Rattle.position.proofs.Composing.{numbered-is}
+use Rattle.position.proofs.Editing.{is-man}
 use Rattle.replay.proofs.inner.arrives.Statement.{statement}
 use Rattle.replay.proofs.inner.arrives.Tie as tie
 

@@ -1,12 +1,6 @@
 -- `replay::inner::filled` meets its contract.
-use mathlib.Core.Path.{_∙_, ap₂}
-use Prim.Native.Nat.{ℕ}
+use Rattle.position.proofs.Composing.{with-own, puts}
 use borrow.Author.Needs.{needs}
-use Rattle.laws.specs.declared.Piece.the-variants.{Rook}
-use Rattle.laws.specs.Men.{Man, man, put}
-use Rattle.placing.specs.Placed.{menIn, withMen}
-use Rattle.placing.proofs.Composing.{with-own}
-use Rattle.unmake.proofs.Answering.{is-man}
 use Rattle.replay.proofs.inner.filled.Statement.{statement}
 use Rattle.replay.proofs.inner.filled.Tie as tie
 
@@ -16,29 +10,17 @@ enum-told c = search needs
 enum-told-2 : tie.Need-enum-told-2
 enum-told-2 c = search needs
 
-enum-told-3 : tie.Need-enum-told-3
-enum-told-3 c = search needs
+enum-known-w : tie.Need-enum-known-w
+enum-known-w c = search needs
 
-home-requires : tie.Need-home-requires
-home-requires c κs = search needs
+rook-to-requires : tie.Need-rook-to-requires
+rook-to-requires c κs = search needs
 
 man-number-requires : tie.Need-man-number-requires
 man-number-requires c κs = search needs
 
 put-man-requires : tie.Need-put-man-requires
 put-man-requires c κs = search needs
-
-enum-told-4 : tie.Need-enum-told-4
-enum-told-4 c = search needs
-
-home-requires-2 : tie.Need-home-requires-2
-home-requires-2 c κs = search needs
-
-man-number-requires-2 : tie.Need-man-number-requires-2
-man-number-requires-2 c κs = search needs
-
-put-man-requires-2 : tie.Need-put-man-requires-2
-put-man-requires-2 c κs = search needs
 
 returns : tie.Need-returns
 returns c = rw (c .enum-told .given .1) (with-own (c .before .before .args .p) (c .before .before .pre))
@@ -47,10 +29,7 @@ returns-2 : tie.Need-returns-2
 returns-2 c = rw (c .enum-told2 .given .1) (with-own (c .before .before .args .p) (c .before .before .pre))
 
 returns-3 : tie.Need-returns-3
-returns-3 c = rw (c .before .before .before .enum-told3 .given .1) (c .put-man .ensures ∙ ap₂ (λ (q : ℕ) (z : Man). withMen (c .before .before .before .before .before .args .p) (put q z (menIn (c .before .before .before .before .before .args .p)))) (c .before .before .home .ensures .0) (is-man (man (c .before .before .before .before .before .args .c) Rook) (c .before .man-number .ensures .0)))
-
-returns-4 : tie.Need-returns-4
-returns-4 c = rw (c .before .before .before .enum-told4 .given .1) (c .put-man2 .ensures ∙ ap₂ (λ (q : ℕ) (z : Man). withMen (c .before .before .before .before .before .args .p) (put q z (menIn (c .before .before .before .before .before .args .p)))) (c .before .before .home2 .ensures .0) (is-man (man (c .before .before .before .before .before .args .c) Rook) (c .before .man-number2 .ensures .0)))
+returns-3 c = rw (c .before .before .before .before .w .given .1) (puts (c .before .before .before .before .before .before .args .p) _ _ (c .put-man .ensures) (c .before .before .rook-to .ensures .0) (c .before .man-number .ensures .0))
 
 pub filled-spec : {M : Type 1} → statement M
 filled-spec =
@@ -58,15 +37,10 @@ filled-spec =
     (tie.spec
     enum-told
     enum-told-2
-    enum-told-3
-    home-requires
+    enum-known-w
+    rook-to-requires
     man-number-requires
     put-man-requires
-    enum-told-4
-    home-requires-2
-    man-number-requires-2
-    put-man-requires-2
     returns
     returns-2
-    returns-3
-    returns-4)
+    returns-3)

@@ -1,7 +1,7 @@
 -- `replay::inner::replay` meets its contract.
 use mathlib.Core.Path.{ap, sym, _∙_}
 use borrow.Author.Needs.{needs}
-use Rattle.unmake.specs.Retracted.{answered}
+use Rattle.position.specs.Answers.{answered}
 use Rattle.replay.specs.Replayed.{replayTo}
 use Rattle.moves.proofs.Steps.{denied, granted}
 use Rattle.replay.proofs.Forwards.{goes-of}

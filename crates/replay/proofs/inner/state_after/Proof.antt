@@ -6,7 +6,7 @@ use lib.Dec.{eqb}
 use borrow.Author.Needs.{needs}
 use Rattle.geometry.specs.declared.Color.{Color}
 use Rattle.geometry.specs.Colors.{opp}
-use Rattle.placing.specs.Placed.{menIn}
+use Rattle.laws.specs.Boards.{menIn}
 use Rattle.replay.proofs.Forwards.{state-is}
 use Rattle.replay.proofs.inner.state_after.Statement.{statement}
 use Rattle.replay.proofs.inner.state_after.Tie as tie

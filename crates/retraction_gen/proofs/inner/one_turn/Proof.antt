@@ -25,8 +25,8 @@ mul-targets c = omega (arith, on-index _ (on c))
 element-copy-out-targets : tie.Need-element-copy-out-targets
 element-copy-out-targets c = on-index _ (on c)
 
-lowest-target-requires : tie.Need-lowest-target-requires
-lowest-target-requires c κs = search needs
+lowest-requires : tie.Need-lowest-requires
+lowest-requires c κs = search needs
 
 add-g2 : tie.Need-add-g2
 add-g2 c = omega (arith, on-index _ (on (c .before .before)))
@@ -36,14 +36,14 @@ again-requires c κs = search needs
 
 returns-2 : tie.Need-returns-2
 unfolding turnOf
-returns-2 c = rw (c .again .ensures, on (c .before .before .before), ← c .before .before .lowest-target .ensures, lt-ltb _ _ (c .before .if2 .taken))
+returns-2 c = rw (c .again .ensures, on (c .before .before .before), ← c .before .before .lowest .ensures, lt-ltb _ _ (c .before .if2 .taken))
 
 turn-in-requires : tie.Need-turn-in-requires
 turn-in-requires c κs = on-index _ (on (c .before .before))
 
 returns-3 : tie.Need-returns-3
 unfolding turnOf
-returns-3 c = rw (on (c .before .before .before), ← c .before .before .lowest-target .ensures, le-ltb _ _ (c .before .if2 .left), c .turn-in .ensures)
+returns-3 c = rw (on (c .before .before .before), ← c .before .before .lowest .ensures, le-ltb _ _ (c .before .if2 .left), c .turn-in .ensures)
 
 pub one-turn-spec : {M : Type 1} → statement M
 one-turn-spec =
@@ -53,7 +53,7 @@ one-turn-spec =
     returns
     mul-targets
     element-copy-out-targets
-    lowest-target-requires
+    lowest-requires
     add-g2
     again-requires
     returns-2

@@ -10,8 +10,8 @@ mul-t c = search needs
 element-copy-out-t : tie.Need-element-copy-out-t
 element-copy-out-t c = search needs
 
-lowest-target-requires : tie.Need-lowest-target-requires
-lowest-target-requires c κs = search needs
+lowest-requires : tie.Need-lowest-requires
+lowest-requires c κs = search needs
 
 without-requires : tie.Need-without-requires
 without-requires c κs = search needs
@@ -24,7 +24,7 @@ way-write-given-out c = search needs
 
 returns : tie.Need-returns
 unfolding spent
-returns c = rw (c .before .without .ensures, c .before .before .lowest-target .ensures)
+returns c = rw (c .before .without .ensures, c .before .before .lowest .ensures)
 
 pub spend-spec : {M : Type 1} → statement M
 spend-spec =
@@ -32,7 +32,7 @@ spend-spec =
     (tie.spec
     mul-t
     element-copy-out-t
-    lowest-target-requires
+    lowest-requires
     without-requires
     mul-out
     way-write-given-out

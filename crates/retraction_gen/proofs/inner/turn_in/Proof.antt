@@ -11,11 +11,11 @@ mul-e c = search needs
 element-copy-out-e : tie.Need-element-copy-out-e
 element-copy-out-e c = search needs
 
-lowest-target-requires : tie.Need-lowest-target-requires
-lowest-target-requires c κs = search needs
+lowest-requires : tie.Need-lowest-requires
+lowest-requires c κs = search needs
 
-passes-requires : tie.Need-passes-requires
-passes-requires c κs = search needs
+is-un-en-passant-requires : tie.Need-is-un-en-passant-requires
+is-un-en-passant-requires c κs = search needs
 
 spend-requires : tie.Need-spend-requires
 spend-requires c κs = search needs
@@ -25,7 +25,7 @@ found-requires c κs = search needs
 
 returns : tie.Need-returns
 unfolding turnIn
-returns c = rw (c .found .ensures, ← c .before .before .before .passes .ensures, c .before .before .if1 .taken, c .before .spend .ensures, c .before .before .before .before .lowest-target .ensures)
+returns c = rw (c .found .ensures, ← c .before .before .before .is-un-en-passant .ensures, c .before .before .if1 .taken, c .before .spend .ensures, c .before .before .before .before .lowest .ensures)
 
 spend-requires-2 : tie.Need-spend-requires-2
 spend-requires-2 c κs = search needs
@@ -35,7 +35,7 @@ again-requires c κs = search needs
 
 returns-2 : tie.Need-returns-2
 unfolding turnIn
-returns-2 c = rw (c .again .ensures, ← c .before .before .before .before .passes .ensures, c .before .before .before .if1 .left, le-leb _ _ (c .before .before .if2 .taken), c .before .spend2 .ensures)
+returns-2 c = rw (c .again .ensures, ← c .before .before .before .before .is-un-en-passant .ensures, c .before .before .before .if1 .left, le-leb _ _ (c .before .before .if2 .taken), c .before .spend2 .ensures)
 
 add-g2 : tie.Need-add-g2
 add-g2 c = search needs
@@ -57,14 +57,14 @@ again-requires-2 c κs = search needs
 
 returns-3 : tie.Need-returns-3
 unfolding turnIn
-returns-3 c = rw (c .again2 .ensures, ← c .before .before .before .before .before .before .passes .ensures, c .before .before .before .before .before .if1 .left, lt-leb _ _ (c .before .before .before .before .if2 .left), ← c .before .before .is-barred .ensures, c .before .if3 .taken)
+returns-3 c = rw (c .again2 .ensures, ← c .before .before .before .before .before .before .is-un-en-passant .ensures, c .before .before .before .before .before .if1 .left, lt-leb _ _ (c .before .before .before .before .if2 .left), ← c .before .before .is-barred .ensures, c .before .if3 .taken)
 
 found-requires-2 : tie.Need-found-requires-2
 found-requires-2 c κs = search needs
 
 returns-4 : tie.Need-returns-4
 unfolding turnIn
-returns-4 c = rw (c .found2 .ensures, ← c .before .before .before .before .before .before .passes .ensures, c .before .before .before .before .before .if1 .left, lt-leb _ _ (c .before .before .before .before .if2 .left), ← c .before .before .is-barred .ensures, c .before .if3 .left, c .before .before .before .before .before .before .before .lowest-target .ensures)
+returns-4 c = rw (c .found2 .ensures, ← c .before .before .before .before .before .before .is-un-en-passant .ensures, c .before .before .before .before .before .if1 .left, lt-leb _ _ (c .before .before .before .before .if2 .left), ← c .before .before .is-barred .ensures, c .before .if3 .left, c .before .before .before .before .before .before .before .lowest .ensures)
 
 pub turn-in-spec : {M : Type 1} → statement M
 turn-in-spec =
@@ -72,8 +72,8 @@ turn-in-spec =
     (tie.spec
     mul-e
     element-copy-out-e
-    lowest-target-requires
-    passes-requires
+    lowest-requires
+    is-un-en-passant-requires
     spend-requires
     found-requires
     returns

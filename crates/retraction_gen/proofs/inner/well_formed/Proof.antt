@@ -7,7 +7,8 @@ use lib.ListN.{take}
 use borrow.Author.Needs.{needs}
 use borrow.Author.Tests.{le-leb, lt-leb}
 use Rattle.squares.specs.Tests.{_and_}
-use Rattle.retraction_gen.specs.Cursors.{sound, wellFormed}
+use Rattle.retraction_list.specs.Entries.{sound}
+use Rattle.retraction_gen.specs.Cursors.{wellFormed}
 use Rattle.retraction_gen.proofs.Sources.{sound-more, sound-bad}
 use Rattle.retraction_gen.proofs.inner.well_formed.Statement.{statement}
 use Rattle.retraction_gen.proofs.inner.well_formed.Tie as tie

@@ -1,14 +1,15 @@
 -- `show_tables::sliders::show_all` meets its contract.
+use Prim.Native.Nat.{_-_}
 use native.Mathlib.Omega.{arith}
 use borrow.Author.Needs.{needs}
 use Rattle.show_tables.proofs.sliders.show_all.Statement.{statement}
 use Rattle.show_tables.proofs.sliders.show_all.Tie as tie
 
 abbrev Inv-loop : tie.InvT-loop
-Inv-loop line₀ turns₀ t5 line turns = Unit {0}
+Inv-loop line₀ t4 counter₀ line counter = Unit {0}
 
 abbrev μ-loop : tie.MeasureT-loop
-μ-loop line₀ turns₀ t5 line turns = turns
+μ-loop line₀ t4 counter₀ line counter = 18446744073709551615 - counter
 
 loop-holds : tie.Need-loop-holds Inv-loop μ-loop
 loop-holds c = tt
@@ -40,8 +41,8 @@ enum-known-l c = search needs
 show-set-requires : tie.Need-show-set-requires Inv-loop μ-loop
 show-set-requires c κs = search needs
 
-sub-turns : tie.Need-sub-turns Inv-loop μ-loop
-sub-turns c = omega arith
+add-counter : tie.Need-add-counter Inv-loop μ-loop
+add-counter c = omega arith
 
 loop-less : tie.Need-loop-less Inv-loop μ-loop
 loop-less c = omega arith
@@ -68,7 +69,7 @@ show-all-spec =
     returns-2
     enum-known-l
     show-set-requires
-    sub-turns
+    add-counter
     loop-less
     loop-again
     returns-3)

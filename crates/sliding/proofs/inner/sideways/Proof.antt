@@ -2,7 +2,7 @@
 use borrow.Author.Needs.{needs}
 use native.Mathlib.Omega.{arith}
 use lib.Bits.{bitAnd}
-use Rattle.sliding.specs.Seen.{mirrored}
+use Rattle.sliding.specs.inner.Seen.{mirrored}
 use Rattle.sliding.proofs.Mirrors.{seen-is}
 use Rattle.sliding.proofs.inner.sideways.Statement.{statement}
 use Rattle.sliding.proofs.inner.sideways.Tie as tie

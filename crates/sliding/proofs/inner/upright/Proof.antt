@@ -1,7 +1,7 @@
 -- `sliding::inner::upright` meets its contract.
 use borrow.Author.Needs.{needs}
 use lib.Bits.{bitAnd}
-use Rattle.sliding.specs.Seen.{flipped}
+use Rattle.sliding.specs.inner.Seen.{flipped}
 use Rattle.sliding.proofs.Mirrors.{flipped-lt, seen-is}
 use Rattle.sliding.proofs.inner.upright.Statement.{statement}
 use Rattle.sliding.proofs.inner.upright.Tie as tie

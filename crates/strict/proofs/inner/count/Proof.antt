@@ -3,8 +3,8 @@ use mathlib.Core.Path.{_≡_, ap}
 use Prim.Native.Nat.{_+_, _-_, _≤_}
 use native.Mathlib.Omega.{arith}
 use lib.ListN.{length}
-use Rattle.placing.specs.Placed.{posAt}
-use Rattle.strict.specs.Searching.{testOf}
+use Rattle.laws.specs.Boards.{posAt}
+use Rattle.strict.specs.inner.Searching.{testOf}
 use Rattle.strict.specs.Demand.{strictMoves}
 use Rattle.strict.proofs.Remaining.{rest, all-rest, moves-le, at-end, inner, one-more, over}
 use Rattle.strict.proofs.inner.count.Statement.{statement}

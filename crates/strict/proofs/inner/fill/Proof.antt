@@ -4,10 +4,10 @@ use mathlib.Core.Path.{_≡_, refl, sym, ap, _∙_}
 use Prim.Native.Nat.{_+_, _-_, _≤_}
 use native.Mathlib.Omega.{arith}
 use lib.ListN.{length}
-use Rattle.placing.specs.Placed.{posAt}
-use Rattle.listing.specs.Listing.{fillFrom}
-use Rattle.listing.proofs.Filling.{fill-on}
-use Rattle.strict.specs.Searching.{testOf}
+use Rattle.laws.specs.Boards.{posAt}
+use Rattle.slots.specs.Slots.{fillFrom}
+use Rattle.slots.proofs.Filling.{fill-on}
+use Rattle.strict.specs.inner.Searching.{testOf}
 use Rattle.strict.specs.Demand.{strictMoves}
 use Rattle.strict.proofs.Remaining.{rest, all-rest, at-end, inner, one-more, over, placed-in}
 use Rattle.strict.proofs.inner.fill.Statement.{statement}

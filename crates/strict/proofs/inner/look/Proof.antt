@@ -1,8 +1,8 @@
 -- `strict::inner::look` meets its contract.
 use mathlib.Core.Path.{sym, _∙_}
 use borrow.Author.Tests.{not-true, not-false}
-use Rattle.placing.specs.Placed.{posAt}
-use Rattle.strict.specs.Searching.{testOf}
+use Rattle.laws.specs.Boards.{posAt}
+use Rattle.strict.specs.inner.Searching.{testOf}
 use Rattle.unmake.proofs.Answering.{source-in, target-in}
 use Rattle.strict.proofs.Skipping.{skip-source, skip-target, skip-coming, found, passed}
 use borrow.Author.Needs.{needs}

@@ -1,8 +1,8 @@
 -- `strict::inner::next_from` meets its contract.
 use Prim.Native.Nat.{_-_}
 use native.Mathlib.Omega.{arith}
-use Rattle.placing.specs.Placed.{posAt}
-use Rattle.strict.specs.Searching.{testOf, Skips}
+use Rattle.laws.specs.Boards.{posAt}
+use Rattle.strict.specs.inner.Searching.{testOf, Skips}
 use Rattle.strict.proofs.Skipping.{skips-none, skips-both}
 use Rattle.strict.proofs.inner.next_from.Statement.{statement}
 use Rattle.strict.proofs.inner.next_from.Tie as tie

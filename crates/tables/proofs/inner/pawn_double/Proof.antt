@@ -7,8 +7,8 @@ use Rattle.tables.proofs.inner.pawn_double.Tie as tie
 bit-requires : tie.Need-bit-requires
 bit-requires c κs = search needs
 
-second-rank-requires : tie.Need-second-rank-requires
-second-rank-requires c κs = search needs
+own-rank-requires : tie.Need-own-rank-requires
+own-rank-requires c κs = search needs
 
 get-rank-requires : tie.Need-get-rank-requires
 get-rank-requires c κs = search needs
@@ -20,14 +20,14 @@ forward-requires-2 : tie.Need-forward-requires-2
 forward-requires-2 c κs = search needs
 
 returns : tie.Need-returns
-returns c = rw (c .forward2 .ensures, c .before .forward .ensures, c .before .before .before .before .bit .ensures, c .before .before .get-rank .ensures, c .before .before .before .second-rank .ensures) (double-is (c .before .before .before .before .before .args .color) (c .before .before .before .before .before .args .sq) (c .before .before .before .before .before .pre))
+returns c = rw (c .forward2 .ensures, c .before .forward .ensures, c .before .before .before .before .bit .ensures, c .before .before .get-rank .ensures, c .before .before .before .own-rank .ensures) (double-is (c .before .before .before .before .before .args .color) (c .before .before .before .before .before .args .sq) (c .before .before .before .before .before .pre))
 
 pub pawn-double-spec : {M : Type 1} → statement M
 pawn-double-spec =
     tie.close
     (tie.spec
     bit-requires
-    second-rank-requires
+    own-rank-requires
     get-rank-requires
     forward-requires
     forward-requires-2

@@ -1,6 +1,6 @@
 -- `text::inner::line_of` meets its contract.
-use borrow.Author.Needs.{needs}
 use Rattle.text.proofs.Tails.{line-done}
+use borrow.Author.Needs.{needs}
 use Rattle.text.proofs.inner.line_of.Statement.{statement}
 use Rattle.text.proofs.inner.line_of.Tie as tie
 

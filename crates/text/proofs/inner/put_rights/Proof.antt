@@ -2,7 +2,7 @@
 use native.Mathlib.Omega.{arith}
 use borrow.Author.Needs.{needs}
 use Rattle.text.proofs.Tails.{side-grows, dash-none, dash-some}
-use Rattle.placement.proofs.Adding.{added-both}
+use Rattle.men_field.proofs.Adding.{added-both}
 use Rattle.text.proofs.inner.put_rights.Statement.{statement}
 use Rattle.text.proofs.inner.put_rights.Tie as tie
 

@@ -2,7 +2,7 @@
 use borrow.Author.Needs.{needs}
 use Rattle.laws.specs.declared.CastleRights.the-variants.{NoRights, KingSide, QueenSide, Both}
 use Rattle.text.proofs.Tails.{side-is}
-use Rattle.placement.proofs.Adding.{added-none, added-both}
+use Rattle.men_field.proofs.Adding.{added-none, added-both}
 use Rattle.text.proofs.inner.put_side.Statement.{statement}
 use Rattle.text.proofs.inner.put_side.Tie as tie
 

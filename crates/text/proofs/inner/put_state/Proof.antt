@@ -2,7 +2,7 @@
 use borrow.Author.Needs.{needs}
 use Rattle.laws.specs.declared.EnPassantFlag.the-variants.{Any, None}
 use Rattle.text.proofs.Tails.{state-is}
-use Rattle.placement.proofs.Adding.{added-both}
+use Rattle.men_field.proofs.Adding.{added-both}
 use Rattle.text.proofs.inner.put_state.Statement.{statement}
 use Rattle.text.proofs.inner.put_state.Tie as tie
 

@@ -1,8 +1,8 @@
 -- `text::inner::put_tail` meets its contract.
 use native.Mathlib.Omega.{arith}
-use borrow.Author.Needs.{needs}
+use Rattle.men_field.proofs.Adding.{added-both}
 use Rattle.text.proofs.Tails.{rights-short}
-use Rattle.placement.proofs.Adding.{added-both}
+use borrow.Author.Needs.{needs}
 use Rattle.text.proofs.inner.put_tail.Statement.{statement}
 use Rattle.text.proofs.inner.put_tail.Tie as tie
 
@@ -22,14 +22,13 @@ put-rights-requires : tie.Need-put-rights-requires
 put-rights-requires c κs = search needs
 
 push-requires-4 : tie.Need-push-requires-4
-push-requires-4 c κs = omega (arith, rights-short (c .before .before .before .before .before .args .w) (c .before .before .before .before .before .args .b))
+push-requires-4 c κs = omega (arith, rights-short (c .before .before .before .before .before .args .p .white) (c .before .before .before .before .before .args .p .black))
 
 put-state-requires : tie.Need-put-state-requires
-put-state-requires c κs = omega (arith, rights-short (c .before .before .before .before .before .before .args .w) (c .before .before .before .before .before .before .args .b))
+put-state-requires c κs = omega (arith, rights-short (c .before .before .before .before .before .before .args .p .white) (c .before .before .before .before .before .before .args .p .black))
 
 returns : tie.Need-returns
-returns c =
-    added-both (c .before .before .before .before .before .before .push .ensures)
+returns c = added-both (c .before .before .before .before .before .before .push .ensures)
     (added-both (rw (c .before .before .before .before .before .turn-byte .ensures) at (c .before .before .before .before .push2 .ensures))
     (added-both (c .before .before .before .push3 .ensures)
     (added-both (c .before .before .put-rights .ensures)

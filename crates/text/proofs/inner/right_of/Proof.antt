@@ -1,7 +1,7 @@
 -- `text::inner::right_of` meets its contract.
 use native.Mathlib.Omega.{arith}
 use borrow.Author.Tests.{ne-eqb}
-use Rattle.text.specs.Reading.{rightOf}
+use Rattle.text.specs.inner.Reading.{rightOf}
 use Rattle.text.proofs.inner.right_of.Statement.{statement}
 use Rattle.text.proofs.inner.right_of.Tie as tie
 

@@ -1,7 +1,7 @@
 -- `text::inner::square_of` meets its contract.
 use borrow.Author.Tests.{ne-eqb, eq-eqb, lt-ltb, le-ltb}
 use borrow.Author.Needs.{needs}
-use Rattle.text.specs.Reading.{squareOf}
+use Rattle.text.specs.inner.Reading.{squareOf}
 use Rattle.text.proofs.inner.square_of.Statement.{statement}
 use Rattle.text.proofs.inner.square_of.Tie as tie
 

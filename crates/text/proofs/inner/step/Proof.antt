@@ -1,7 +1,7 @@
 -- `text::inner::step` meets its contract.
 use borrow.Author.Tests.{ne-eqb, eq-eqb}
 use borrow.Author.Needs.{needs}
-use Rattle.text.specs.Reading.{stepOf}
+use Rattle.text.specs.inner.Reading.{stepOf}
 use Rattle.text.proofs.inner.step.Statement.{statement}
 use Rattle.text.proofs.inner.step.Tie as tie
 

@@ -1,7 +1,7 @@
 -- `text::inner::step_men` meets its contract.
 use borrow.Author.Tests.{le-leb, lt-leb}
 use borrow.Author.Needs.{needs}
-use Rattle.text.specs.Reading.{stepMen}
+use Rattle.text.specs.inner.Reading.{stepMen}
 use Rattle.text.proofs.inner.step_men.Statement.{statement}
 use Rattle.text.proofs.inner.step_men.Tie as tie
 

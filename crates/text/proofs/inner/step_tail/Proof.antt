@@ -1,7 +1,7 @@
 -- `text::inner::step_tail` meets its contract.
 use borrow.Author.Tests.{ne-eqb, eq-eqb}
 use borrow.Author.Needs.{needs}
-use Rattle.text.specs.Reading.{stepTail}
+use Rattle.text.specs.inner.Reading.{stepTail}
 use Rattle.text.proofs.inner.step_tail.Statement.{statement}
 use Rattle.text.proofs.inner.step_tail.Tie as tie
 

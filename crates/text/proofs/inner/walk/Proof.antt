@@ -3,7 +3,7 @@ use mathlib.Core.Path.{_≡_, refl, sym, _∙_}
 use Prim.Native.Nat.{_-_, _≤_}
 use native.Mathlib.Omega.{arith}
 use lib.ListN.{length, drop}
-use Rattle.text.specs.Reading.{startOf, runOf}
+use Rattle.text.specs.inner.Reading.{startOf, runOf}
 use Rattle.text.proofs.Walks.{run-step, run-done}
 use denote.Ref.{now}
 use Rattle.text.proofs.inner.walk.Statement.{statement}

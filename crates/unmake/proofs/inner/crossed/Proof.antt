@@ -6,8 +6,9 @@ use borrow.Author.Needs.{needs}
 use Rattle.geometry.specs.declared.Color.{Color}
 use Rattle.geometry.specs.Colors.{opp, behind}
 use Rattle.laws.specs.Men.{manNumber}
-use Rattle.placing.specs.Placed.{menIn}
-use Rattle.unmake.proofs.Answering.{no-man, up-five, crossed-is, not-crossed}
+use Rattle.laws.specs.Boards.{menIn}
+use Rattle.position.proofs.Editing.{no-man}
+use Rattle.unmake.proofs.Answering.{up-five, crossed-is, not-crossed}
 use Rattle.unmake.proofs.inner.crossed.Statement.{statement}
 use Rattle.unmake.proofs.inner.crossed.Tie as tie
 

@@ -2,7 +2,7 @@
 use borrow.Author.Needs.{needs}
 use Rattle.laws.specs.declared.Piece.the-variants.{Pawn}
 use Rattle.laws.specs.Men.{man}
-use Rattle.unmake.proofs.Answering.{is-man}
+use Rattle.position.proofs.Editing.{is-man}
 use Rattle.unmake.proofs.inner.left_by.Statement.{statement}
 use Rattle.unmake.proofs.inner.left_by.Tie as tie
 

@@ -2,8 +2,9 @@
 use mathlib.Core.Path.{_∙_, ap}
 use borrow.Author.Needs.{needs}
 use Rattle.laws.specs.Men.{Man, isPawn}
-use Rattle.placing.specs.Placed.{menIn, posAt}
-use Rattle.unmake.proofs.Answering.{is-man, rest-is}
+use Rattle.laws.specs.Boards.{menIn, posAt}
+use Rattle.position.proofs.Editing.{is-man}
+use Rattle.unmake.proofs.Answering.{rest-is}
 use Rattle.unmake.proofs.inner.rest_ok.Statement.{statement}
 use Rattle.unmake.proofs.inner.rest_ok.Tie as tie
 

@@ -6,9 +6,9 @@ use borrow.Author.Needs.{needs}
 use Rattle.squares.specs.Tests.{_and_}
 use Rattle.geometry.specs.declared.Color.{Color}
 use Rattle.laws.specs.Men.{Man, isOf}
-use Rattle.placing.specs.Placed.{menIn}
+use Rattle.laws.specs.Boards.{menIn}
 use Rattle.unmake.specs.Retracted.{sourceFor}
-use Rattle.unmake.proofs.Answering.{is-man}
+use Rattle.position.proofs.Editing.{is-man}
 use Rattle.unmake.proofs.inner.source_ok.Statement.{statement}
 use Rattle.unmake.proofs.inner.source_ok.Tie as tie
 

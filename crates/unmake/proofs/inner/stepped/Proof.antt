@@ -3,8 +3,9 @@ use mathlib.Core.Path.{_∙_, ap, sym}
 use mathlib.Core.Bool.{true, false}
 use borrow.Author.Tests.{lt-ltb}
 use borrow.Author.Needs.{needs}
-use Rattle.placing.specs.Placed.{posAt}
-use Rattle.unmake.specs.Retracted.{answered, steppedTo}
+use Rattle.laws.specs.Boards.{posAt}
+use Rattle.position.specs.Answers.{answered}
+use Rattle.unmake.specs.Retracted.{steppedTo}
 use Rattle.moves.proofs.Steps.{denied, granted}
 use Rattle.unmake.proofs.Answering.{step-over, step-no, leaves, back-clean, step-is, position-is}
 use Rattle.unmake.proofs.inner.stepped.Statement.{statement}

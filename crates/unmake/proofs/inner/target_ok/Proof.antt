@@ -4,9 +4,9 @@ use mathlib.Core.Bool.{Bool, _&&_}
 use lib.Dec.{ltb}
 use borrow.Author.Needs.{needs}
 use Rattle.squares.specs.Tests.{_and_}
-use Rattle.placing.specs.Placed.{menIn}
+use Rattle.laws.specs.Boards.{menIn}
 use Rattle.unmake.specs.Retracted.{targetFor}
-use Rattle.unmake.proofs.Answering.{no-man}
+use Rattle.position.proofs.Editing.{no-man}
 use Rattle.unmake.proofs.inner.target_ok.Statement.{statement}
 use Rattle.unmake.proofs.inner.target_ok.Tie as tie
 

@@ -1,6 +1,6 @@
 -- `unmake::inner::undoable` meets its contract.
+use Rattle.unmake.specs.inner.Parts.{undoableFor}
 use borrow.Author.Needs.{needs}
-use Rattle.unmake.specs.Parts.{undoableFor}
 use Rattle.unmake.proofs.inner.undoable.Statement.{statement}
 use Rattle.unmake.proofs.inner.undoable.Tie as tie
 
@@ -13,17 +13,11 @@ enum-told-2 c = search needs
 crossed-requires : tie.Need-crossed-requires
 crossed-requires c κs = search needs
 
-enum-told-3 : tie.Need-enum-told-3
-enum-told-3 c = search needs
+enum-known-w : tie.Need-enum-known-w
+enum-known-w c = search needs
 
 castled-requires : tie.Need-castled-requires
 castled-requires c κs = search needs
-
-enum-told-4 : tie.Need-enum-told-4
-enum-told-4 c = search needs
-
-castled-requires-2 : tie.Need-castled-requires-2
-castled-requires-2 c κs = search needs
 
 returns : tie.Need-returns
 unfolding undoableFor
@@ -34,11 +28,7 @@ returns-2 c = rw (c .before .enum-told2 .given .1) (c .crossed .ensures)
 
 returns-3 : tie.Need-returns-3
 unfolding undoableFor
-returns-3 c = rw (c .before .enum-told3 .given .1) (c .castled .ensures)
-
-returns-4 : tie.Need-returns-4
-unfolding undoableFor
-returns-4 c = rw (c .before .enum-told4 .given .1) (c .castled2 .ensures)
+returns-3 c = rw (c .before .before .w .given .1) (c .castled .ensures)
 
 pub undoable-spec : {M : Type 1} → statement M
 undoable-spec =
@@ -47,11 +37,8 @@ undoable-spec =
     enum-told
     enum-told-2
     crossed-requires
-    enum-told-3
+    enum-known-w
     castled-requires
-    enum-told-4
-    castled-requires-2
     returns
     returns-2
-    returns-3
-    returns-4)
+    returns-3)

@@ -1,7 +1,7 @@
 -- `unmake::inner::unmake` meets its contract.
 use mathlib.Core.Path.{_∙_, sym}
 use borrow.Author.Needs.{needs}
-use Rattle.placing.specs.Placed.{posAt}
+use Rattle.laws.specs.Boards.{posAt}
 use Rattle.unmake.specs.Retracted.{unmadeTo}
 use Rattle.moves.proofs.Steps.{denied, granted}
 use Rattle.unmake.proofs.Answering.{source-in, target-in}

@@ -1,5 +1,5 @@
 -- `board::inner::moving::boarded` meets its contract.
-use Rattle.board.specs.Moving.{boardedOf}
+use Rattle.board.specs.inner.Gates.{boardedOf}
 use borrow.Author.Needs.{needs}
 use Rattle.board.proofs.inner.moving.boarded.Statement.{statement}
 use Rattle.board.proofs.inner.moving.boarded.Tie as tie

@@ -1,6 +1,6 @@
 -- `drawing::inner::diagram::put_square` meets its contract.
 use borrow.Author.Needs.{needs}
-use Rattle.report.proofs.Adding.{adds-as}
+use Rattle.rows.proofs.Adding.{adds-as}
 use Rattle.drawing.proofs.inner.diagram.put_square.Statement.{statement}
 use Rattle.drawing.proofs.inner.diagram.put_square.Tie as tie
 

@@ -6,8 +6,8 @@ use lib.ListN.{length, take}
 use borrow.Author.Needs.{needs}
 use denote.Ref.{now}
 use Rattle.squares.specs.Members.{concat}
-use Rattle.feed.specs.Appending.{Adds}
-use Rattle.report.proofs.Adding.{adds-nothing}
+use Rattle.output.specs.Appending.{Adds}
+use Rattle.rows.proofs.Adding.{adds-nothing}
 use Rattle.drawing.specs.Diagrams.{squareText, eight}
 use Rattle.drawing.proofs.Drawn.{eight-next, eight-all, squares-length}
 use Rattle.drawing.proofs.inner.diagram.put_squares.Statement.{statement}

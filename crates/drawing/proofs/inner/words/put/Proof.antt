@@ -1,6 +1,6 @@
 -- `drawing::inner::words::put` meets its contract.
 use borrow.Author.Needs.{needs}
-use Rattle.feed.proofs.Added.{used-adds}
+use Rattle.output.proofs.Added.{used-adds}
 use Rattle.drawing.proofs.inner.words.put.Statement.{statement}
 use Rattle.drawing.proofs.inner.words.put.Tie as tie
 

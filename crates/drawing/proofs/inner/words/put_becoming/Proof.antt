@@ -1,7 +1,7 @@
 -- `drawing::inner::words::put_becoming` meets its contract.
 use native.Mathlib.Omega.{arith}
 use borrow.Author.Needs.{needs}
-use Rattle.report.proofs.Adding.{adds-nothing}
+use Rattle.rows.proofs.Adding.{adds-nothing}
 use Rattle.drawing.specs.Words.{bytesIn, bytes}
 use Rattle.drawing.proofs.Worded.{name-added}
 use Rattle.drawing.proofs.inner.words.put_becoming.Statement.{statement}

@@ -2,7 +2,7 @@
 use native.Mathlib.Omega.{arith}
 use borrow.Author.Needs.{needs}
 use denote.Ref.{now}
-use Rattle.report.proofs.Adding.{adds-then}
+use Rattle.rows.proofs.Adding.{adds-then}
 use Rattle.drawing.proofs.Lengths.{counted-short}
 use Rattle.drawing.proofs.inner.words.put_counted.Statement.{statement}
 use Rattle.drawing.proofs.inner.words.put_counted.Tie as tie

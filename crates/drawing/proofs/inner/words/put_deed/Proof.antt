@@ -3,7 +3,7 @@ use mathlib.Core.Path.{sym, _∙_}
 use native.Mathlib.Omega.{arith}
 use borrow.Author.Tests.{lt-ltb, le-ltb}
 use borrow.Author.Needs.{needs}
-use Rattle.report.proofs.Adding.{adds-nothing}
+use Rattle.rows.proofs.Adding.{adds-nothing}
 use Rattle.drawing.specs.Words.{bytesIn, bytes}
 use Rattle.drawing.proofs.Worded.{name-added}
 use Rattle.drawing.proofs.inner.words.put_deed.Statement.{statement}

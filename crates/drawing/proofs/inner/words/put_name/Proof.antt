@@ -1,6 +1,6 @@
 -- `drawing::inner::words::put_name` meets its contract.
 use borrow.Author.Needs.{needs}
-use Rattle.report.proofs.Adding.{adds-as}
+use Rattle.rows.proofs.Adding.{adds-as}
 use Rattle.drawing.specs.Words.{bytesIn}
 use Rattle.drawing.proofs.Worded.{name-rest}
 use Rattle.drawing.proofs.inner.words.put_name.Statement.{statement}

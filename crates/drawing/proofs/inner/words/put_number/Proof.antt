@@ -1,6 +1,6 @@
 -- `drawing::inner::words::put_number` meets its contract.
 use borrow.Author.Needs.{needs}
-use Rattle.report.proofs.Decimals.{decimal-added}
+use Rattle.rows.proofs.Decimals.{decimal-added}
 use Rattle.drawing.proofs.inner.words.put_number.Statement.{statement}
 use Rattle.drawing.proofs.inner.words.put_number.Tie as tie
 

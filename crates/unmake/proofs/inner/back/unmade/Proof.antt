@@ -1,7 +1,7 @@
 -- `unmake::inner::back::unmade` meets its contract.
-use mathlib.Core.Path.{refl, _∙_}
-use borrow.Author.Needs.{needs}
+use mathlib.Core.Path.{refl}
 use Rattle.unmake.proofs.Backs.{unmade-is}
+use borrow.Author.Needs.{needs}
 use Rattle.unmake.proofs.inner.back.unmade.Statement.{statement}
 use Rattle.unmake.proofs.inner.back.unmade.Tie as tie
 
@@ -17,25 +17,14 @@ before-requires c κs = search needs
 state-before-requires : tie.Need-state-before-requires
 state-before-requires c κs = search needs
 
-is-white-requires : tie.Need-is-white-requires
-is-white-requires c κs = search needs
+rights-before-requires : tie.Need-rights-before-requires
+rights-before-requires c κs = search needs
 
-is-short-requires : tie.Need-is-short-requires
-is-short-requires c κs = search needs
-
-is-long-requires : tie.Need-is-long-requires
-is-long-requires c κs = search needs
-
-with-rights-requires : tie.Need-with-rights-requires
-with-rights-requires c κs = search needs
-
-with-rights-requires-2 : tie.Need-with-rights-requires-2
-with-rights-requires-2 c κs = search needs
+rights-before-requires-2 : tie.Need-rights-before-requires-2
+rights-before-requires-2 c κs = search needs
 
 returns : tie.Need-returns
-returns c = unmade-is (c .before .before .before .before .before .before .before .before .before .before .before .args .p) (c .before .before .before .before .before .before .before .before .before .before .before .args .r) (c .before .before .before .before .before .before .before .before .before .before .before .args .w) (c .before .before .before .before .before .before .before .before .before .before .before .args .c) (c .before .before .before .before .before .before .before .before .before .before .before .pre) _ (c .before .before .before .before .before .before .before .before .before2 .ensures) (c .before .before .before .before .before .before .before .before .before .before .other .ensures) (c .before .before .before .before .before .before .before .before .before .man-number .ensures .0)
-    (c .before .before .before .with-rights .ensures ∙ rw (c .before .before .before .before .before .is-short .ensures, c .before .before .before .before .is-long .ensures, c .before .before .before .before .before .before .is-white .ensures))
-    (c .before .before .with-rights2 .ensures ∙ rw (c .before .before .before .before .before .is-short .ensures, c .before .before .before .before .is-long .ensures, c .before .before .before .before .before .before .is-white .ensures)) (c .before .before .before .before .before .before .before .state-before .ensures) refl
+returns c = unmade-is (c .before .before .before .before .before .before .before .before .args .p) (c .before .before .before .before .before .before .before .before .args .r) (c .before .before .before .before .before .before .before .before .args .w) (c .before .before .before .before .before .before .before .before .args .c) (c .before .before .before .before .before .before .before .before .pre) _ (c .before .before .before .before .before .before2 .ensures) (c .before .before .before .before .before .before .before .other .ensures) (c .before .before .before .before .before .before .man-number .ensures .0) (c .before .before .before .rights-before .ensures) (c .before .before .rights-before2 .ensures) (c .before .before .before .before .state-before .ensures) refl
 
 pub unmade-spec : {M : Type 1} → statement M
 unmade-spec =
@@ -45,9 +34,6 @@ unmade-spec =
     man-number-requires
     before-requires
     state-before-requires
-    is-white-requires
-    is-short-requires
-    is-long-requires
-    with-rights-requires
-    with-rights-requires-2
+    rights-before-requires
+    rights-before-requires-2
     returns)

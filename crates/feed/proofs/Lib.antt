@@ -1,5 +1,0 @@
-pub mod Cuts
-pub mod Kept
-pub mod Searched
-pub mod Input
-pub mod Added

@@ -1,4 +1,0 @@
-pub mod Splitting
-pub mod Reading
-pub mod Appending
-pub mod Digits

@@ -1,0 +1,24 @@
+-- `geometry::inner::home_square` meets its contract.
+use mathlib.Core.Path.{refl}
+use native.Mathlib.Omega.{arith}
+use borrow.Author.Needs.{needs}
+use Rattle.geometry.proofs.inner.home_square.Statement.{statement}
+use Rattle.geometry.proofs.inner.home_square.Tie as tie
+
+enum-told : tie.Need-enum-told
+enum-told c = search needs
+
+enum-told-2 : tie.Need-enum-told-2
+enum-told-2 c = search needs
+
+add-result : tie.Need-add-result
+add-result c = search needs
+
+returns : tie.Need-returns
+returns c = search needs
+
+returns-2 : tie.Need-returns-2
+returns-2 c = rw (c .enum-told2 .given .1) (refl, omega arith)
+
+pub home-square-spec : {M : Type 1} → statement M
+home-square-spec = tie.close (tie.spec enum-told enum-told-2 add-result returns returns-2)

@@ -1,0 +1,4 @@
+pub mod Cuts
+pub mod Kept
+pub mod Searched
+pub mod Input

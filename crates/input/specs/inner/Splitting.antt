@@ -1,0 +1,82 @@
+-- A line cut out of what was read: where it ends, what of it is kept, and where the cursor then stands.
+use mathlib.Core.Path.{_≡_}
+use mathlib.Core.Bool.{Bool, true, false, cond}
+use mathlib.Core.List.{List}
+use Prim.Native.Nat.{ℕ, zero, suc, _+_, _-_, _≤_, min}
+use lib.Dec.{ltb}
+use lib.IntN.{ℤ, pos, negsuc}
+use lib.ListN.{length, drop}
+use lib.Seq.{paste}
+use Rattle.libc.specs.Io.{Moved}
+use Rattle.io.specs.Counts.{clamped}
+use Rattle.squares.specs.Tests.{_or_}
+use Rattle.input.specs.declared.Cursor.{Cursor}
+use Rattle.input.specs.declared.Part.{Part}
+use Rattle.input.specs.declared.Ending.{Ending}
+use Rattle.input.specs.declared.Ending.the-variants.{Open, Newline, Over, Failed}
+use Rattle.input.specs.Reading.{stopFrom}
+
+-- where the line of a part ends among the unread bytes
+abbrev pub stopOf : List ℕ → Part → ℕ
+stopOf s p = stopFrom s (p .at) (p .end - p .at)
+
+-- how many of those bytes the line's buffer still takes
+abbrev pub keptOf : List ℕ → Part → ℕ
+keptOf s p = min (stopOf s p - p .at) (512 - p .len)
+
+-- the part after the cut: past the newline, if there was one, with the bytes that were kept
+abbrev pub cutOf : List ℕ → Part → Part
+cutOf s p = record {
+  at = cond (ltb (stopOf s p) (p .end)) (stopOf s p + 1) (p .end);
+  end = p .end;
+  len = p .len + keptOf s p;
+  long = p .long or ltb (keptOf s p) (stopOf s p - p .at);
+  ending = cond (ltb (stopOf s p) (p .end)) Newline (p .ending);
+}
+
+-- the line's buffer after the cut
+abbrev pub lineOf : List ℕ → Part → List ℕ → List ℕ
+lineOf s p l = paste l (p .len) (drop (p .at) s) (keptOf s p)
+
+-- unread bytes of a chunk of 65,536, and a line in a buffer of 512
+pub record Fit (p : Part) : Type 0 where
+  pub unread : p .at ≤ p .end
+  pub inside : p .end ≤ 65536
+  pub short : p .len ≤ 512
+
+-- the cut of a part p of the chunk s; that a chunk has 65,536 bytes no caller could tell otherwise
+pub record Cuts (s l : List ℕ) (p r : Part) (l′ : List ℕ) : Type 0 where
+  pub cut : r ≡ cutOf s p
+  pub keeps : l′ ≡ lineOf s p l
+  pub fits : Fit r
+  pub wide : length s ≡ 65536
+
+-- the bytes of a line have not ended
+abbrev pub isOpen : Ending → Bool
+isOpen Open = true
+isOpen Newline = false
+isOpen Over = false
+isOpen Failed = false
+
+abbrev pub cursorOf : Part → Cursor
+cursorOf p = record { at = p .at; end = p .end }
+
+-- a part of which nothing is in the line's buffer yet
+abbrev pub openedAt : Cursor → Part
+openedAt c = record { at = c .at; end = c .end; len = 0; long = false; ending = Open }
+
+-- after a read that answered `got`, n bytes
+abbrev pub endingOf : ℤ → Ending
+endingOf (pos (suc n)) = Open
+endingOf (pos zero) = Over
+endingOf (negsuc n) = Failed
+
+abbrev pub filledOf : Part → ℤ → ℕ → Part
+filledOf p got n = record { at = 0; end = n; len = p .len; long = p .long; ending = endingOf got }
+
+-- one read, and the cut of what came
+pub record Turns (p : Part) (l : List ℕ) (r : Part) (s′ l′ : List ℕ) : Type 0 where
+  pub got : ℤ
+  pub answered : Moved 65536 got × (length s′ ≡ 65536)
+  pub cut : r ≡ cutOf s′ (filledOf p got (clamped got 65536))
+  pub keeps : l′ ≡ lineOf s′ (filledOf p got (clamped got 65536)) l

@@ -1,0 +1,3 @@
+pub mod Placement
+pub mod Grammar
+pub mod inner

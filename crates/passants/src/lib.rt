@@ -1,2 +1,0 @@
-// The pawn's `legals` in the Rust's piece_type.rs, whole: un-pushes and uncaptures, then un-en-passant.
-pub mod inner; // inner.rt: the entries, pushed onto a list

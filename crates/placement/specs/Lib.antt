@@ -1,4 +1,0 @@
-pub mod Placement
-pub mod Grammar
-pub mod Lines
-pub mod Letters

@@ -1,0 +1,3 @@
+pub mod Saying
+pub mod Tested
+pub mod Writing

@@ -1,0 +1,69 @@
+// The answer of a board that its gate let pass: the ported list, then the strict one, then both in writing. `t` is the table of squares
+// between, lent.
+use board::RetractableBoard;
+use refusal::Refusal;
+use slots::Listed;
+use text::Copied;
+ghost use mathlib.Core.Path.{_≡_};
+ghost use mathlib.Core.List.{_++_, map};
+ghost use Prim.Native.Nat.{_≤_};
+ghost use lib.ListN.{length};
+ghost use Rattle.geometry.specs.Lines.{IsBetween};
+ghost use Rattle.laws.specs.Retractions.{packed};
+ghost use Rattle.refusal.specs.declared.Verdict.the-variants.{Accepted};
+ghost use Rattle.refusal.specs.Said.{firstFailing};
+ghost use Rattle.board.specs.Gate.{gateOf};
+ghost use Rattle.text.specs.Entries.{textOn};
+ghost use Rattle.retraction_gen.specs.Sequence.{sequenceOn};
+ghost use Rattle.rows.specs.Rows.{reportOf};
+ghost use Rattle.reply.specs.Replies.{newline, listedTests, Shows, AnswersBoard, listedThen};
+
+fn put_lists(b: RetractableBoard, listed: &[u16], strict: &[u16], out: &mut [u8; 196608]) -> usize
+    requires { ⌜ (length (now listed) ≤ 8192) × (length (now strict) ≤ 8192) ⌝ }
+    ensures { λ n. ⌜ Shows (textOn b ++ newline ++ reportOf (now (listed .entry)) (now (strict .entry))) n (now (out .entry)) (now (out .exit)) ⌝ }
+{
+    let p = text::inner::print(b, out);
+    match p {
+        Copied::Count(n) => {
+            let end = output::put_bytes(out, n, b"\n").used(n);
+            rows::report(out, end, listed, strict).used(end)
+        }
+        Copied::Room(_) => 0,
+    }
+}
+
+fn put_strict(
+    t: &[u64; 4096],
+    b: RetractableBoard,
+    listed: &[u16],
+    strict: &mut [u16],
+    out: &mut [u8; 196608],
+) -> usize
+    requires { ⌜ IsBetween (now t) × (firstFailing (listedTests b) ≡ 0) × (now listed ≡ map packed (sequenceOn b)) × (length (now strict) ≡ 8192) ⌝ }
+    ensures { λ n. ⌜ AnswersBoard 0 b n (now (out .entry)) (now (out .exit)) (now (strict .entry)) (now (strict .exit)) ⌝ }
+{
+    let s = strict::inner::list(t, b, strict);
+    match s {
+        Listed::Count(n) => put_lists(b, listed, &strict[..n], out),
+        Listed::Room(_) => super::put_refused(Refusal::Room, out),
+        Listed::Refused(why) => super::put_refused(why, out),
+    }
+}
+
+pub fn put_board(
+    t: &[u64; 4096],
+    b: RetractableBoard,
+    listed: &mut [u16],
+    strict: &mut [u16],
+    out: &mut [u8; 196608],
+) -> usize
+    requires { ⌜ IsBetween (now t) × (gateOf b ≡ Accepted) × (length (now listed) ≡ 8192) × (length (now strict) ≡ 8192) ⌝ }
+    ensures { λ n. ⌜ AnswersBoard 0 b n (now (out .entry)) (now (out .exit)) (now (strict .entry)) (now (strict .exit)) × (now (listed .exit) ≡ listedThen 0 b (now (listed .entry))) ⌝ }
+{
+    let l = listing::inner::list(t, b, listed);
+    match l {
+        Listed::Count(n) => put_strict(t, b, &listed[..n], strict, out),
+        Listed::Room(_) => super::put_refused(Refusal::Room, out),
+        Listed::Refused(why) => super::put_refused(why, out),
+    }
+}

@@ -1,0 +1,56 @@
+-- `retraction_gen::inner::made_from` meets its contract.
+use mathlib.Core.Path.{sym, ap, _∙_}
+use borrow.Author.Needs.{needs}
+use Rattle.refusal.specs.declared.Refusal.the-variants.{Full}
+use Rattle.refusal.specs.Refusals.{verdictNumber}
+use Rattle.retraction_gen.specs.Making.{listOn, masksOn, cursorOn}
+use Rattle.refusal.proofs.Tested.{beside-none, beside-refused}
+use Rattle.view.proofs.Seen.{ready}
+use Rattle.retraction_gen.proofs.Filled.{held-is, full-fails, held-passes}
+use Rattle.retraction_gen.proofs.inner.made_from.Statement.{statement}
+use Rattle.retraction_gen.proofs.inner.made_from.Tie as tie
+
+seen-requires : tie.Need-seen-requires
+seen-requires c κs = search needs
+
+enumerate-requires : tie.Need-enumerate-requires
+enumerate-requires c κs = rw (c .seen .ensures) (ready _ _ _ _ _ (c .before .pre))
+
+refused-requires : tie.Need-refused-requires
+refused-requires c κs = search needs
+
+returns : tie.Need-returns
+unfolding listOn
+returns c =
+    let h = full-fails _ _ (rw (c .before .before .before .seen .ensures) at (c .before .before .enumerate .ensures)) (c .before .if1 .taken) in
+    record { number = ap verdictNumber (c .refused .ensures .0) ∙ h; cursor = c .refused .ensures .1 ∙ beside-refused _ _ _ Full h }
+
+position-of-requires : tie.Need-position-of-requires
+position-of-requires c κs = search needs
+
+candidates-requires : tie.Need-candidates-requires
+candidates-requires c κs = search needs
+
+started-requires : tie.Need-started-requires
+started-requires c κs = search needs
+
+returns-2 : tie.Need-returns-2
+unfolding cursorOn listOn masksOn
+returns-2 c =
+    let e = rw (c .before .before .before .before .before .seen .ensures) at (c .before .before .before .before .enumerate .ensures) in
+    let f = c .before .before .before .if1 .left in
+    let h = held-passes _ _ e f in
+    record { number = sym h; cursor = rw (c .started .ensures, c .before .candidates .ensures, c .before .before .position-of .ensures, held-is _ _ e f) (beside-none _ _ _ h) }
+
+pub made-from-spec : {M : Type 1} → statement M
+made-from-spec =
+    tie.close
+    (tie.spec
+    seen-requires
+    enumerate-requires
+    refused-requires
+    returns
+    position-of-requires
+    candidates-requires
+    started-requires
+    returns-2)

@@ -1,0 +1,3 @@
+pub mod Pushing
+pub mod Answers
+pub mod Sourced

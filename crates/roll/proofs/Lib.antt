@@ -1,3 +1,0 @@
-pub mod Pushing
-pub mod Answers
-pub mod Placing

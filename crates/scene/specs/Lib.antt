@@ -1,2 +1,0 @@
-pub mod Chess
-pub mod Scenes
