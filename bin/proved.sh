@@ -6,7 +6,7 @@
 #   answer [WORDS]      runs it
 
 # What a build from nothing takes. It is said here, and in README.md.
-minutes="about 4 to 6 minutes on two cores"
+minutes="about 5 to 7 minutes on two cores"
 
 fail() {
     status=$1
