@@ -13,12 +13,13 @@ use Rattle.geometry.specs.declared.Color.the-variants.{White, Black}
 use Rattle.geometry.specs.Colors.{opp, rankFor, behind}
 use Rattle.laws.specs.declared.Piece.the-variants.{Pawn}
 use Rattle.laws.specs.declared.EnPassantFlag.the-variants.{Some}
+use Rattle.laws.specs.declared.Edition.{Edition}
 use Rattle.laws.specs.Men.{man, Men, isEmpty, isPawn, sameMan}
 use Rattle.laws.specs.Positions.{Rights}
 use Rattle.laws.specs.declared.Side.the-variants.{Short as short, Long as long}
-use Rattle.laws.specs.Acceptance.{edge, pawnsOk, rightOk, rightsOk, stateOk, beside}
+use Rattle.laws.specs.Acceptance.{edge, pawnsOk, rightOk, rightsOk, stateOk, noted}
 use Rattle.laws.specs.Boards.{kindSet, menAt, Clean}
-use Rattle.men.specs.inner.Standing.{besideOf}
+use Rattle.men.specs.inner.Standing.{notedOf}
 use Rattle.accept.specs.inner.Parts.{steppedTwice}
 use Rattle.squares.proofs.Testing.{agree, agree-eq}
 use Rattle.squares.proofs.Every.{meet-test, all-cong, square-eq}
@@ -70,15 +71,15 @@ unfolding steppedTwice
 not-stepped m c q h = elsewhere (sameMan (m q) (man c Pawn)) (isEmpty (m (behind c q))) (isEmpty (m (behind c (behind c q)))) (eqb (rankFor c q) 3) (ne-eqb (rankFor c q) 3 h)
 
 -- the square is one of the 64, or it is not
-abbrev below : Men → Color → ℕ → Bool → Bool
-below m c q t =
+abbrev below : Edition → Men → Color → ℕ → Bool → Bool
+below v m c q t =
     t and sameMan (m q) (man (opp c) Pawn) and eqb (rankFor (opp c) q) 3 and isEmpty (m (behind (opp c) q)) and isEmpty (m (behind (opp c) (behind (opp c) q)))
-    and beside m (man c Pawn) q
+    and noted v m c q
 
-pub square-is : (m : Men) (c : Color) (q : ℕ) → q < 64 → not (steppedTwice m (opp c) q and besideOf m c q) ≡ not (stateOk m c (Some q))
-unfolding steppedTwice besideOf _and_
-square-is m c q h = ap (λ (t : Bool). not (below m c q t)) (sym (lt-ltb q 64 h))
+pub square-is : (v : Edition) (m : Men) (c : Color) (q : ℕ) → q < 64 → not (steppedTwice m (opp c) q and notedOf v m c q) ≡ not (stateOk v m c (Some q))
+unfolding steppedTwice notedOf _and_
+square-is v m c q h = ap (λ (t : Bool). not (below v m c q t)) (sym (lt-ltb q 64 h))
 
-pub square-above : (m : Men) (c : Color) (q : ℕ) → 64 ≤ q → true ≡ not (stateOk m c (Some q))
+pub square-above : (v : Edition) (m : Men) (c : Color) (q : ℕ) → 64 ≤ q → true ≡ not (stateOk v m c (Some q))
 unfolding _and_
-square-above m c q h = ap (λ (t : Bool). not (below m c q t)) (sym (le-ltb q 64 h))
+square-above v m c q h = ap (λ (t : Bool). not (below v m c q t)) (sym (le-ltb q 64 h))

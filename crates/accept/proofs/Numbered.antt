@@ -55,9 +55,9 @@ module _ (p : Position) where
   abbrev ρ : Rights
   ρ = posAt p .rights
 
-  pub judged-exactly : Exactly (verdictNumber (judgedOf p)) (menOk (p .pieces) (p .colors)) (kingsOk m) (pawnsOk m) (rightsOk m ρ) (stateOk m (p .turn) (p .passant)) (quiet m (p .turn))
+  pub judged-exactly : Exactly (verdictNumber (judgedOf p)) (menOk (p .pieces) (p .colors)) (kingsOk m) (pawnsOk m) (rightsOk m ρ) (stateOk (p .terms .edition) m (p .turn) (p .passant)) (quiet m (p .turn))
   unfolding judgedOf fiveOf thirdOf
-  judged-exactly = exactly (menOk (p .pieces) (p .colors)) (kingsOk m) (pawnsOk m) (rightsOk m ρ) (stateOk m (p .turn) (p .passant)) (quiet m (p .turn))
+  judged-exactly = exactly (menOk (p .pieces) (p .colors)) (kingsOk m) (pawnsOk m) (rightsOk m ρ) (stateOk (p .terms .edition) m (p .turn) (p .passant)) (quiet m (p .turn))
 
   abbrev five : Bool → Bool → Verdict
   five t u = unless t men (unless u kings (thirdOf p))
@@ -79,11 +79,11 @@ module _ (p : Position) where
     pub men-pass : menOk (p .pieces) (p .colors) ≡ true
     pub passes : Passes (posAt p)
 
-  five-all : fiveOf p ≡ Accepted → (menOk (p .pieces) (p .colors) and kingsOk m and pawnsOk m and rightsOk m ρ and stateOk m (p .turn) (p .passant)) ≡ true
+  five-all : fiveOf p ≡ Accepted → (menOk (p .pieces) (p .colors) and kingsOk m and pawnsOk m and rightsOk m ρ and stateOk (p .terms .edition) m (p .turn) (p .passant)) ≡ true
   unfolding fiveOf thirdOf _and_
   five-all h =
       sym (agree-eq _ _ (by-cases 5 (λ a b d e f. agree (eqb (verdictNumber (unless a men (unless b kings (firstRefused (not d) (not e) (not f))))) 0) (a and b and d and e and f)) refl
-      (menOk (p .pieces) (p .colors)) (kingsOk m) (pawnsOk m) (rightsOk m ρ) (stateOk m (p .turn) (p .passant))))
+      (menOk (p .pieces) (p .colors)) (kingsOk m) (pawnsOk m) (rightsOk m ρ) (stateOk (p .terms .edition) m (p .turn) (p .passant))))
       ∙ ap (λ (v : Verdict). eqb (verdictNumber v) 0) h
 
   pub five-passes : fiveOf p ≡ Accepted → Five
@@ -115,7 +115,7 @@ module _ (p : Position) where
   five-number =
       eqb-true _ _ (by-cases 5 (λ a b d e f. eqb (verdictNumber (unless a men (unless b kings (firstRefused (not d) (not e) (not f)))))
       (firstFailing ((a else men) ∷ (b else kings) ∷ (d else pawn) ∷ (e else rights) ∷ (f else passant) ∷ []))) refl
-      (menOk (p .pieces) (p .colors)) (kingsOk (menIn p)) (pawnsOk (menIn p)) (rightsOk (menIn p) (posAt p .rights)) (stateOk (menIn p) (p .turn) (p .passant)))
+      (menOk (p .pieces) (p .colors)) (kingsOk (menIn p)) (pawnsOk (menIn p)) (rightsOk (menIn p) (posAt p .rights)) (stateOk (p .terms .edition) (menIn p) (p .turn) (p .passant)))
 
   pub judged-number : verdictNumber (judgedOf p) ≡ firstFailing (rawTests p)
   unfolding judgedOf

@@ -14,7 +14,7 @@ use Rattle.refusal.specs.Said.{Test, _else_}
 abbrev pub fiveTests : Position → List Test
 fiveTests p =
     (menOk (p .pieces) (p .colors) else men) ∷ (kingsOk (menIn p) else kings) ∷ (pawnsOk (menIn p) else pawn)
-    ∷ (rightsOk (menIn p) (posAt p .rights) else rights) ∷ (stateOk (menIn p) (p .turn) (p .passant) else passant) ∷ []
+    ∷ (rightsOk (menIn p) (posAt p .rights) else rights) ∷ (stateOk (p .terms .edition) (menIn p) (p .turn) (p .passant) else passant) ∷ []
 
 -- "raw men come in through 1 to 6"
 abbrev pub rawTests : Position → List Test
@@ -25,7 +25,7 @@ abbrev pub firstRefused : Bool → Bool → Bool → Verdict
 firstRefused pawns rights′ state = cond pawns (Refused pawn) (cond rights′ (Refused rights) (cond state (Refused passant) Accepted))
 
 unfoldable pub thirdOf : Position → Verdict
-thirdOf p = firstRefused (not (pawnsOk (menIn p))) (not (rightsOk (menIn p) (posAt p .rights))) (not (stateOk (menIn p) (p .turn) (p .passant)))
+thirdOf p = firstRefused (not (pawnsOk (menIn p))) (not (rightsOk (menIn p) (posAt p .rights))) (not (stateOk (p .terms .edition) (menIn p) (p .turn) (p .passant)))
 
 -- 1 to 5 in order
 unfoldable pub fiveOf : Position → Verdict

@@ -1,57 +1,51 @@
-// Which verb a line begins with. A text is asked about in questions.rt; the verbs here read their fields in another way.
-use super::boards;
-use super::cursors;
-use super::fields;
-use super::gates;
-use super::puts;
-use super::questions;
-use super::slices;
-use super::study;
-ghost use Prim.Native.Nat.{_≤_};
-ghost use lib.ListN.{length};
+// Whose verb a line begins with. Each crate of verbs answers 0 bytes to a line that has none of its own, and no answer is empty.
+ghost use Rattle.puts.specs.inner.Growing.{Grows};
 
 // The answer and a newline go into `out`; answers how many bytes there are.
 pub(super) fn reply(line: &[u8], out: &mut [u8; 65536]) -> usize
-    ensures { λ n. ⌜ n ≤ length (now (out .exit)) ⌝ }
+    ensures { λ n. ⌜ Grows 0 n ⌝ }
 {
     let n = by_verb(line, out);
-    let end = puts::bytes(out, n, b"\n");
-    let text: &[u8] = out;
-    if end <= text.len() { end } else { 0 }
+    puts::inner::bytes(out, n, b"\n")
 }
 
-fn by_verb(line: &[u8], out: &mut [u8; 65536]) -> usize {
-    if fields::starts(line, b"raw\t") {
-        return boards::raw(line, out);
+// A record may be of any length, so that the verbs by an edition have the whole line, and the others its first 512 bytes.
+fn by_verb(line: &[u8], out: &mut [u8; 65536]) -> usize
+    ensures { λ n. ⌜ Grows 0 n ⌝ }
+{
+    let editions = edition_verbs::inner::answer(line, out);
+    if editions > 0 {
+        return editions;
     }
-    if fields::starts(line, b"replay\t") {
-        return boards::replay(line, out);
+    let n = line.len();
+    if n < 512 {
+        return by_short(line, out);
     }
-    if fields::starts(line, b"gate\t") {
-        return gates::gate(line, out);
-    }
-    if fields::starts(line, b"cursor\t") {
-        return cursors::press(false, line, out);
-    }
-    if fields::starts(line, b"press\t") {
-        return cursors::press(true, line, out);
-    }
-    by_lender(line, out)
+    by_short(&line[..512], out)
 }
 
-// The verbs that lend a slice of a size that stands in the line.
-fn by_lender(line: &[u8], out: &mut [u8; 65536]) -> usize {
-    if fields::starts(line, b"print\t") {
-        return slices::print(line, out);
+fn by_short(line: &[u8], out: &mut [u8; 65536]) -> usize
+    ensures { λ n. ⌜ Grows 0 n ⌝ }
+{
+    let boards = board_verbs::inner::answer(line, out);
+    if boards > 0 {
+        return boards;
     }
-    if fields::starts(line, b"listinto\t") {
-        return slices::list(false, line, out);
+    let cursors = cursor_verbs::inner::answer(line, out);
+    if cursors > 0 {
+        return cursors;
     }
-    if fields::starts(line, b"strictinto\t") {
-        return slices::list(true, line, out);
+    let lists = list_verbs::inner::answer(line, out);
+    if lists > 0 {
+        return lists;
     }
-    if fields::starts(line, b"desks\t") {
-        return study::run(line, out);
+    let gates = gate_verb::inner::answer(line, out);
+    if gates > 0 {
+        return gates;
     }
-    questions::answer(line, out)
+    let desks = desks_verb::inner::answer(line, out);
+    if desks > 0 {
+        return desks;
+    }
+    puts::inner::bytes(out, 0, b"unknown verb")
 }

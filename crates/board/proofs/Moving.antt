@@ -61,6 +61,7 @@ laws-one x y e =
       pinned = e i .pinned;
       checkers = e i .checkers;
       passant = e i .passant;
+      terms = e i .terms;
     }
 
 module _ (b : RetractableBoard) (r : ChessRetraction) (h : gateOf b ≡ Accepted) where
@@ -97,6 +98,7 @@ module _ (b : RetractableBoard) (r : ChessRetraction) (h : gateOf b ≡ Accepted
           pinned = pinsOf m (unmadeFor (posOn b) r .turn);
           checkers = checkersOf m (unmadeFor (posOn b) r .turn);
           passant = unmadeFor (posOn b) r .passant;
+          terms = unmadeFor (posOn b) r .terms;
         }) shown
 
     module _ (ok : Clean (b .pieces) (b .colors)) where
@@ -207,7 +209,15 @@ module _ (b : RetractableBoard) (r : ChessRetraction) (ok : Clean (b .pieces) (b
     sym (replayed-is (unmadeOn b r) r (kindToday (posOn b) r) unmade-passes-on)
         ∙ ap (λ (z : Positioned). boardedOf (replayTo (posAt (z .position)) r (kindToday (posOn b) r))) (sym (is b r h done))
         ∙ (λ i. boardedBy (returned .verdict-back i)
-        (workedOf (positionFrom (returned .pieces-back i) (returned .colors-back i) (returned .turn-back i) (returned .white-back i) (returned .black-back i) (u .position .passant))))
+        (workedOf (record {
+          pieces = returned .pieces-back i;
+          colors = returned .colors-back i;
+          turn = returned .turn-back i;
+          white = returned .white-back i;
+          black = returned .black-back i;
+          passant = u .position .passant;
+          terms = returned .terms-back i;
+        })))
         ∙ ap (λ (x : RetractableBoard). record { verdict = Accepted; board = withPassant x (u .position .passant) }) (worked-whole b h),
   )
     where

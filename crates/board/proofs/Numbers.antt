@@ -39,7 +39,7 @@ unfolding firstFailing _and_
 board-number b =
     ltb-true _ 8 (by-cases 7
     (λ m k p r s q f. ltb (firstFailing ((m else men) ∷ (k else kings) ∷ (p else pawn) ∷ (r else rights) ∷ (s else passant) ∷ (q else check) ∷ (f else Stale) ∷ [])) 8) refl
-    (menOk (b .pieces) (b .colors)) (kingsOk (menOn b)) (pawnsOk (menOn b)) (rightsOk (menOn b) (posOn b .rights)) (stateOk (menOn b) (b .turn) (b .passant)) (quiet (menOn b) (b .turn)) (freshOn b))
+    (menOk (b .pieces) (b .colors)) (kingsOk (menOn b)) (pawnsOk (menOn b)) (rightsOk (menOn b) (posOn b .rights)) (stateOk (b .terms .edition) (menOn b) (b .turn) (b .passant)) (quiet (menOn b) (b .turn)) (freshOn b))
 
 -- a number above 7 is given exactly when 1 to 7 pass and what stands behind them has it
 pub above-seven : (b : RetractableBoard) (x : Said) (n : ℕ) → 8 ≤ n → eqb (numberSaid (behind (boardTests b) x)) n ≡ (eqb (firstFailing (boardTests b)) 0 and eqb (numberSaid x) n)

@@ -100,6 +100,7 @@ worked-whole b h =
       pinned = sym (p .pins-are) i;
       checkers = sym (p .checkers-are) i;
       passant = b .passant;
+      terms = b .terms;
     }
 
 -- the number of the gate's verdict is that of the first test that fails
@@ -111,7 +112,7 @@ pub ask-number : (b : RetractableBoard) (sq : ℕ) → verdictNumber (askGate b 
 ask-number b sq = then-number (gateOf b) (boardTests b) (ltb sq 64) Source (gate-number b)
 
 pub state-number : (b : RetractableBoard) (st : EnPassantFlag) → verdictNumber (stateGate b st) ≡ firstFailing (stateTests b st)
-state-number b st = then-number (gateOf b) (boardTests b) (stateOk (menOn b) (b .turn) st) Passant (gate-number b)
+state-number b st = then-number (gateOf b) (boardTests b) (stateOk (b .terms .edition) (menOn b) (b .turn) st) Passant (gate-number b)
 
 -- a square that may be asked about
 pub ask-accepted : (b : RetractableBoard) (sq : ℕ) → askGate b sq ≡ Accepted → (gateOf b ≡ Accepted) × (ltb sq 64 ≡ true)
@@ -127,7 +128,7 @@ stale-exactly b =
     agree-eq _ _ (by-cases 7
     (λ m k p r s q f. agree (eqb (verdictNumber (andThen (andThen (unless m men (unless k kings (firstRefused (not p) (not r) (not s)))) (unless q check Accepted)) (unless f Stale Accepted))) 7)
     (m and (k and p and r and s and q) and not f)) refl
-    (menOk (b .pieces) (b .colors)) (kingsOk (menOn b)) (pawnsOk (menOn b)) (rightsOk (menOn b) (posOn b .rights)) (stateOk (menOn b) (b .turn) (b .passant)) (quiet (menOn b) (b .turn)) (freshOn b))
+    (menOk (b .pieces) (b .colors)) (kingsOk (menOn b)) (pawnsOk (menOn b)) (rightsOk (menOn b) (posOn b .rights)) (stateOk (b .terms .edition) (menOn b) (b .turn) (b .passant)) (quiet (menOn b) (b .turn)) (freshOn b))
 
 -- the kind as the sets have it
 pub kind-read : (b : RetractableBoard) (sq : ℕ) → Clean (b .pieces) (b .colors) → gateOf b ≡ Accepted → sq < 64 → kindRead b sq ≡ kindOn (menOn b sq)

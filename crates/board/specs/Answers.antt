@@ -29,6 +29,7 @@ workedOf p = record {
   pinned = pinsOf (menIn p) (p .turn);
   checkers = checkersOf (menIn p) (p .turn);
   passant = p .passant;
+  terms = p .terms;
 }
 
 -- "`piece_on` and `is_attacked` test 9 for their square", behind 1 to 7
@@ -42,7 +43,7 @@ kindOn (man c k) = Kind k
 
 -- "`set_en_passant` tests 5 again for its new state (none after unknown is allowed, on its caller's word)"
 abbrev pub stateTests : RetractableBoard → EnPassantFlag → List Test
-stateTests b st = boardTests b ++ ((stateOk (menOn b) (b .turn) st else Passant) ∷ [])
+stateTests b st = boardTests b ++ ((stateOk (b .terms .edition) (menOn b) (b .turn) st else Passant) ∷ [])
 
 abbrev pub withPassant : RetractableBoard → EnPassantFlag → RetractableBoard
 withPassant b st = record {
@@ -55,6 +56,7 @@ withPassant b st = record {
   pinned = b .pinned;
   checkers = b .checkers;
   passant = st;
+  terms = b .terms;
 }
 
 -- `set_uncertain_ep`: none becomes unknown, all else stays

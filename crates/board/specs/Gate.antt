@@ -8,9 +8,11 @@ use Rattle.laws.specs.declared.CastleRights.{CastleRights}
 use Rattle.laws.specs.declared.CastleRights.the-variants.{NoRights}
 use Rattle.laws.specs.declared.EnPassantFlag.{EnPassantFlag}
 use Rattle.laws.specs.declared.EnPassantFlag.the-variants.{Any}
+use Rattle.laws.specs.declared.Edition.{Edition}
+use Rattle.laws.specs.declared.Edition.the-variants.{A}
 use Rattle.laws.specs.declared.Position.{Position}
 use Rattle.laws.specs.Men.{Men}
-use Rattle.laws.specs.Positions.{Pos}
+use Rattle.laws.specs.Positions.{Pos, termsOf}
 use Rattle.laws.specs.Boards.{menIn, posAt, Board, fieldsOf, freshOk}
 use Rattle.refusal.specs.declared.Refusal.the-variants.{Stale}
 use Rattle.refusal.specs.declared.Verdict.{Verdict}
@@ -33,6 +35,7 @@ toLaws b = record {
   pinned = b .pinned;
   checkers = b .checkers;
   passant = b .passant;
+  terms = b .terms;
 }
 
 -- its fields without the worked-out ones, its men, and the Laws' position that it shows
@@ -62,10 +65,18 @@ abbrev pub boardTests : RetractableBoard → List Test
 boardTests b = rawTests (positionOn b) ++ ((freshOn b else Stale) ∷ [])
 
 -- the position of raw fields
-abbrev pub positionFrom : List ℕ → List ℕ → Color → CastleRights → CastleRights → EnPassantFlag → Position
-positionFrom pieces colors turn white black passant = record { pieces = pieces; colors = colors; turn = turn; white = white; black = black; passant = passant }
+abbrev pub positionFrom : List ℕ → List ℕ → Color → CastleRights → CastleRights → EnPassantFlag → Edition → Position
+positionFrom pieces colors turn white black passant edition = record {
+  pieces = pieces;
+  colors = colors;
+  turn = turn;
+  white = white;
+  black = black;
+  passant = passant;
+  terms = termsOf edition;
+}
 
--- "A refusal writes nothing and returns no board": no men, White to move, no rights, unknown state
+-- "A refusal writes nothing and returns no board": no men, White to move, no rights, unknown state, edition A
 abbrev pub noBoard : RetractableBoard
 noBoard = record {
   pieces = 0 ∷ 0 ∷ 0 ∷ 0 ∷ 0 ∷ 0 ∷ [];
@@ -77,6 +88,7 @@ noBoard = record {
   pinned = 0;
   checkers = 0;
   passant = Any;
+  terms = termsOf A;
 }
 
 -- b where nothing is refused, else the empty board

@@ -42,6 +42,7 @@ pub fn position_of(b: RetractableBoard) -> Position
     let white = b.white;
     let black = b.black;
     let passant = b.passant;
+    let terms = b.terms;
     Position {
         pieces,
         colors,
@@ -49,6 +50,7 @@ pub fn position_of(b: RetractableBoard) -> Position
         white,
         black,
         passant,
+        terms,
     }
 }
 
@@ -139,6 +141,7 @@ fn worked(t: &[u64; 4096], p: Position) -> RetractableBoard
     let white = p.white;
     let black = p.black;
     let passant = p.passant;
+    let terms = p.terms;
     let combined = men::inner::occupied(pieces, colors);
     let checkers = pins::inner::checkers(pieces, colors, turn);
     let pinned = pins::inner::pins(t, pieces, colors, turn);
@@ -152,6 +155,7 @@ fn worked(t: &[u64; 4096], p: Position) -> RetractableBoard
         pinned,
         checkers,
         passant,
+        terms,
     }
 }
 

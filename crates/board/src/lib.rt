@@ -2,9 +2,11 @@
 use laws::CastleRights;
 use laws::ChessRetraction;
 use laws::Color;
+use laws::Edition;
 use laws::EnPassantFlag;
 use laws::Piece;
 use laws::Position;
+use laws::Terms;
 use refusal::Refusal;
 use refusal::Verdict;
 ghost use mathlib.Core.Path.{_≡_};
@@ -20,7 +22,8 @@ ghost use Rattle.board.specs.Moving.{unmakeTests, unmadeOn, replayTests,
 mod back; // back.rt: how the board's own sets go back
 pub mod inner; // inner.rt: the gate over a lent table
 
-// Six sets by kind and two by colour; the worked-out union, pins and checkers; the turn, each colour's rights and the en passant state.
+// Six sets by kind and two by colour; the worked-out union, pins and checkers; the turn, each colour's rights, the en passant
+// state, and the terms that it is read by.
 pub struct RetractableBoard {
     pub pieces: [u64; 6],
     pub colors: [u64; 2],
@@ -31,6 +34,7 @@ pub struct RetractableBoard {
     pub pinned: u64,
     pub checkers: u64,
     pub passant: EnPassantFlag,
+    pub terms: Terms,
 }
 
 // A board, or a refusal beside the empty board.
@@ -67,6 +71,7 @@ pub struct AttackTold {
 pub fn no_board() -> RetractableBoard
     ensures { λ r. ⌜ r ≡ noBoard ⌝ }
 {
+    let terms = laws::terms_of(Edition::A);
     RetractableBoard {
         pieces: [0; 6],
         colors: [0; 2],
@@ -77,11 +82,12 @@ pub fn no_board() -> RetractableBoard
         pinned: 0,
         checkers: 0,
         passant: EnPassantFlag::Any,
+        terms,
     }
 }
 
 impl RetractableBoard {
-    // A board from raw men: refusals 1 to 6.
+    // A board from raw men, its state read in an edition: refusals 1 to 6.
     pub fn new(
         pieces: [u64; 6],
         colors: [u64; 2],
@@ -89,10 +95,12 @@ impl RetractableBoard {
         white: CastleRights,
         black: CastleRights,
         passant: EnPassantFlag,
+        edition: Edition,
     ) -> Boarded
-        ensures { λ r. ⌜ Boards (rawTests (positionFrom pieces colors turn white black passant)) (workedOf (positionFrom pieces colors turn white black passant)) r ⌝ }
+        ensures { λ r. ⌜ Boards (rawTests (positionFrom pieces colors turn white black passant edition)) (workedOf (positionFrom pieces colors turn white black passant edition)) r ⌝ }
     {
         let t = tables::between_table();
+        let terms = laws::terms_of(edition);
         let p = Position {
             pieces,
             colors,
@@ -100,6 +108,7 @@ impl RetractableBoard {
             white,
             black,
             passant,
+            terms,
         };
         inner::board_from(&t, p)
     }

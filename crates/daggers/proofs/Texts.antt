@@ -8,6 +8,7 @@ use native.Mathlib.Omega.{arith}
 use borrow.Author.Tests.{eq-eqb}
 use Rattle.squares.specs.Squares.{flag, allTo}
 use Rattle.laws.specs.declared.ChessRetraction.{ChessRetraction}
+use Rattle.laws.specs.declared.Edition.the-variants.{A}
 use Rattle.laws.specs.Acceptance.{accepted}
 use Rattle.laws.specs.Strictness.{strict}
 use Rattle.laws.specs.StrictLists.{retractionAt, In}
@@ -35,25 +36,25 @@ use Rattle.strict.proofs.Told.{gate-by, strict-past}
 
 -- what the reader's walk reads, and the board of it
 abbrev pub fieldsIn : String → Position
-fieldsIn t = rawOf (runOf startOf (bytes t)) .position
+fieldsIn t = rawOf A (runOf startOf (bytes t)) .position
 
 abbrev pub boardIn : String → RetractableBoard
 boardIn t = workedOf (fieldsIn t)
 
 -- a text that the printer gives back, of an accepted position
 module _ (t : String) (prints : printed (fieldsIn t) ≡ bytes t) (lawful : accepted (posOn (boardIn t)) ≡ true) where
-  pub says : Says (fieldsIn t) (bytes t)
-  says = in-form (bytes t) (rawOf (runOf startOf (bytes t))) (bytes t) true refl (sym prints) refl refl
+  pub says : Says A (fieldsIn t) (bytes t)
+  says = in-form A (bytes t) (rawOf A (runOf startOf (bytes t))) (bytes t) true refl (sym prints) refl refl
 
   pub gate : gateOf (boardIn t) ≡ Accepted
   gate =
       gate-by (boardIn t)
-      (both (both (says-men-ok (bytes t) (fieldsIn t) says) lawful)
+      (both (both (says-men-ok A (bytes t) (fieldsIn t) says) lawful)
       (both (both (eq-eqb (boardIn t .combined) _ refl) (eq-eqb (boardIn t .checkers) _ refl)) (eq-eqb (boardIn t .pinned) _ refl)))
 
-  read-is : (b : Boarded) → Reads (bytes t) b → b ≡ record { verdict = Accepted; board = boardIn t }
+  read-is : (b : Boarded) → Reads A (bytes t) b → b ≡ record { verdict = Accepted; board = boardIn t }
   read-is b h =
-      read-said (bytes t) b (fieldsIn t) h says
+      read-said A (bytes t) b (fieldsIn t) h says
       ∙ ap (λ (v : Verdict). boardedBy v (boardIn t)) (gate-judged (boardIn t) gate)
 
   pub on-text : (P : RetractableBoard → Type 0) → P (boardIn t) → OnText t P

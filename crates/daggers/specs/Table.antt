@@ -9,6 +9,7 @@ use Rattle.geometry.specs.declared.Color.{Color}
 use Rattle.geometry.specs.declared.Color.the-variants.{White}
 use Rattle.geometry.specs.Lines.{IsBetween}
 use Rattle.laws.specs.declared.Piece.{Piece}
+use Rattle.laws.specs.declared.Edition.the-variants.{A}
 use Rattle.laws.specs.declared.Piece.the-variants.{Pawn, Knight, Bishop, Rook, Queen, King}
 use Rattle.laws.specs.declared.ChessRetraction.{ChessRetraction}
 use Rattle.laws.specs.Men.{Men, kindNumber}
@@ -34,9 +35,9 @@ pub data Line : Type 0 where
   -- a retraction, and the slot that it packs to
   packs : ChessRetraction → ℕ → Line
 
--- `read` accepts the text t, and P holds of its board
+-- `read` accepts the text t in edition A, and P holds of its board
 unfoldable pub OnText : String → (RetractableBoard → Type 0) → Type 0
-OnText t P = (b : Boarded) → Reads (bytes t) b → (b .verdict ≡ Accepted) × P (b .board)
+OnText t P = (b : Boarded) → Reads A (bytes t) b → (b .verdict ≡ Accepted) × P (b .board)
 
 -- whatever `strict_into` may answer on the text's board, P holds of its list
 abbrev pub StrictOf : String → (List ChessRetraction → Type 0) → Type 0

@@ -20,7 +20,7 @@ use Rattle.desks.specs.Calls.{firstOf, leftBy, Answers}
 use Rattle.desks.specs.Runs.{Sized}
 use Rattle.desks.proofs.Room.{fit-room}
 use Rattle.desks.proofs.Pasting.{Apart, paste-apart, paste-length, paste-at, set-apart, places-same, places-set, places-length}
-use Rattle.place.proofs.Keeping.{words-length, keeps}
+use Rattle.place.proofs.Keeping.{words-length, words-held, keeps}
 use Rattle.desks.proofs.Standing.{neither-met}
 
 -- one desk's places become ps, and all else of the slice stays
@@ -59,17 +59,13 @@ own-words : (b : RetractableBoard) → wordsAt (wordsOf b) 0 16 ≡ wordsOf b
 unfolding wordsOf
 own-words b = refl
 
-own-mark : (b : RetractableBoard) → getD (wordsOf b) 0 0 ≡ 1
-unfolding wordsOf
-own-mark b = refl
-
 held-there : (t : List ℕ) (p : ℕ) (b : RetractableBoard) → Shaped (toLaws b) → firstFailing (boardTests b) ≡ 0 → ((i : ℕ) → i < 16 → getD t (base p + i) 0 ≡ getD (wordsOf b) i 0) → placeAt t p ≡ held b
 unfolding placeAt
 held-there t p b z g h =
     let q : base p + 0 ≡ base p = omega arith in
-    let m : markAt t p ≡ 1 = (rw q at (h 0 (omega arith))) ∙ own-mark b in
+    let m : eqb (markAt t p) 0 ≡ false = ap (λ (x : ℕ). eqb x 0) (rw q at (h 0 (omega arith))) ∙ words-held b in
     let w : wordsAt t (base p) 16 ≡ wordsOf b = (rw q at (words-shift t (wordsOf b) (base p) 0 16 (λ i u. h i (omega arith)))) ∙ own-words b in
-    ap (λ (x : ℕ). cond (eqb x 0) free (held (boardAt t p))) m ∙ ap held (ap boardRead w ∙ keeps b z g)
+    ap (λ (y : Bool). cond y free (held (boardAt t p))) m ∙ ap held (ap boardRead w ∙ keeps b z g)
 
 module _ (s : List ℕ) (p n : ℕ) (r : base (p + n) ≤ length s) where
   put-after : (b : RetractableBoard) → Shaped (toLaws b) → firstFailing (boardTests b) ≡ 0 → (y : Bool) → ltb (lowest (placesFrom s p n)) (length (placesFrom s p n)) ≡ y

@@ -76,6 +76,7 @@ told : (q : Pos) {w b : CastleRights} → w ≡ rightsFor (q .rights White short
       pinned = 0;
       checkers = 0;
       passant = q .state;
+      terms = q .terms;
     }) (foundStored (boardOf q) 0 0)
 unfolding foundStored
 told q e f =
@@ -89,6 +90,7 @@ told q e f =
       pinned = 0;
       checkers = 0;
       passant = q .state;
+      terms = q .terms;
     }
 
 module _ (b : Board) (r : ChessRetraction) (clean : Clean (b .pieces) (b .colors)) (union : b .combined ≡ unionOf (posOf b .men))
@@ -207,4 +209,5 @@ module _ (b : Board) (r : ChessRetraction) (clean : Clean (b .pieces) (b .colors
         pinned = 0;
         checkers = 0;
         passant = Any;
+        terms = b .terms;
       }

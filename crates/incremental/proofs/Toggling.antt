@@ -32,6 +32,7 @@ withMen b m = record {
   pinned = b .pinned;
   checkers = b .checkers;
   passant = b .passant;
+  terms = b .terms;
 }
 
 -- one square, in the xor or not: what stands there before and after
@@ -111,6 +112,7 @@ module _ (b : Board) (m n : Men) (c : Color) (k : Piece) (bb : ℕ) (fits : bb <
         pinned = b .pinned;
         checkers = b .checkers;
         passant = b .passant;
+        terms = b .terms;
       }
 
 -- a xor of one square, and of two

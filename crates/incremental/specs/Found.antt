@@ -34,6 +34,7 @@ foundStored b checkers pinned = record {
   pinned = pinned;
   checkers = checkers;
   passant = b .passant;
+  terms = b .terms;
 }
 
 -- `result.checkers ^= bb`, `result.pinned ^= bb`

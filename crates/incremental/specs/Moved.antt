@@ -36,6 +36,7 @@ xorOf b piece bb color = record {
   pinned = b .pinned;
   checkers = b .checkers;
   passant = b .passant;
+  terms = b .terms;
 }
 
 -- `piece_on(square).unwrap()` (195 to 219). `None` (198) is not unwrapped: by 9 a man stands on the source
@@ -57,6 +58,7 @@ openedOf b = record {
   pinned = 0;
   checkers = 0;
   passant = Any;
+  terms = b .terms;
 }
 
 -- `retraction_bb` (327 to 329): `source_bb ^ target_bb`
@@ -94,6 +96,7 @@ rightsStored b color rights = record {
   pinned = b .pinned;
   checkers = b .checkers;
   passant = b .passant;
+  terms = b .terms;
 }
 
 -- `rook_bb` (353 to 354): `BitBoard::set(my_backrank, f) ^ BitBoard::set(my_backrank, g)`
@@ -127,6 +130,7 @@ passantStored b state = record {
   pinned = b .pinned;
   checkers = b .checkers;
   passant = state;
+  terms = b .terms;
 }
 
 -- the pawn reappears (371 to 379): `reappearing_pawn_square` is `source.ubackward(color)`

@@ -44,9 +44,9 @@ cutBy p stop n = record {
   ending = cond (ltb stop (p .end)) Newline (p .ending);
 }
 
-module _ (s l x : List ℕ) (p : Part) (stop n at : ℕ) (ending : Ending) (e : stop ≡ stopOf s p) (k : n ≡ min (stop - p .at) (512 - p .len)) where
+module _ (s l x : List ℕ) (p : Part) (stop n at : ℕ) (ending : Ending) (e : stop ≡ stopOf s p) (k : n ≡ min (stop - p .at) (65536 - p .len)) where
   kept-is : n ≡ keptOf s p
-  kept-is = k ∙ ap (λ (i : ℕ). min (i - p .at) (512 - p .len)) e
+  kept-is = k ∙ ap (λ (i : ℕ). min (i - p .at) (65536 - p .len)) e
 
   pub cut-is : at ≡ cond (ltb stop (p .end)) (stop + 1) (p .end) → ending ≡ cond (ltb stop (p .end)) Newline (p .ending)
       → record { at = at; end = p .end; len = p .len + n; long = p .long || ltb n (stop - p .at); ending = ending } ≡ cutOf s p

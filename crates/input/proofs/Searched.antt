@@ -224,7 +224,7 @@ module _ (s₀ l : List ℕ) (c : Cursor) (s line : List ℕ) (p : Part) (turns 
   left = ap (searched s₀ c) (sym (append-nil (g .reads))) ∙ g .later []
 
   onward-is : (x : Ending) → let f = onward x (g .bytes) s (p .at) (p .end) [] in
-      (f .bytes ≡ g .bytes) × (f .ending ≡ x) × (f .chunk ≡ s) × (stepOf f ≡ stepFor x (min 512 (length (g .bytes))) (ltb 512 (length (g .bytes))) (cursorOf p))
+      (f .bytes ≡ g .bytes) × (f .ending ≡ x) × (f .chunk ≡ s) × (stepOf f ≡ stepFor x (min 65536 (length (g .bytes))) (ltb 65536 (length (g .bytes))) (cursorOf p))
   unfolding readOn
   onward-is Open = (refl, refl, refl, refl)
   onward-is Newline = (refl, refl, refl, refl)
@@ -255,24 +255,24 @@ next-one s l c r q s₁ s₂ l₁ l₂ a b e =
       a .keeps ∙ ap (λ (x : Found). keptIn l (x .bytes)) f ∙ sym (b .keeps),
     )
 
--- a line has at most 512 bytes in its buffer
+-- a line has at most 65,536 bytes in its buffer
 lineLen : Step → ℕ
 lineLen (Line n long c) = n
 lineLen End = 0
 lineLen failed = 0
 
-pub line-short : (s l : List ℕ) (c : Cursor) (r : Step) (s′ l′ : List ℕ) → Gives s l c r s′ l′ → (n : ℕ) (long : Bool) (d : Cursor) → r ≡ Line n long d → n ≤ 512
+pub line-short : (s l : List ℕ) (c : Cursor) (r : Step) (s′ l′ : List ℕ) → Gives s l c r s′ l′ → (n : ℕ) (long : Bool) (d : Cursor) → r ≡ Line n long d → n ≤ 65536
 unfolding lineLen
 line-short s l c r s′ l′ a n long d e =
     let f = searched s c (a .reads) in
-    let k : lineLen (stepOf f) ≤ 512 = by (f .ending) (min 512 (length (f .bytes))) (ltb 512 (length (f .bytes))) _ (omega arith) in
-    subst (λ (x : Step). lineLen x ≤ 512) (sym (a .step) ∙ e) k
+    let k : lineLen (stepOf f) ≤ 65536 = by (f .ending) (min 65536 (length (f .bytes))) (ltb 65536 (length (f .bytes))) _ (omega arith) in
+    subst (λ (x : Step). lineLen x ≤ 65536) (sym (a .step) ∙ e) k
   where
-    maybe : (t : Bool) (n : ℕ) (b : Bool) (c : Cursor) → n ≤ 512 → lineLen (cond t (Line n b c) End) ≤ 512
+    maybe : (t : Bool) (n : ℕ) (b : Bool) (c : Cursor) → n ≤ 65536 → lineLen (cond t (Line n b c) End) ≤ 65536
     maybe true n b c h = h
     maybe false n b c h = omega arith
 
-    by : (x : Ending) (n : ℕ) (b : Bool) (c : Cursor) → n ≤ 512 → lineLen (stepFor x n b c) ≤ 512
+    by : (x : Ending) (n : ℕ) (b : Bool) (c : Cursor) → n ≤ 65536 → lineLen (stepFor x n b c) ≤ 65536
     by Newline n b c h = h
     by Over n b c h = maybe (ltb 0 n) n b c h
     by Failed n b c h = omega arith

@@ -75,12 +75,12 @@ stepFor Over n long c = cond (ltb 0 n) (Line n long c) End
 stepFor Failed n long c = failed
 stepFor Open n long c = failed
 
--- of a line longer than the line's buffer the first 512 bytes are kept, and `long` says so
+-- of a line longer than the line's buffer the first 65,536 bytes are kept, and `long` says so
 abbrev pub stepOf : Found → Step
-stepOf f = stepFor (f .ending) (min 512 (length (f .bytes))) (ltb 512 (length (f .bytes))) (record { at = f .at; end = f .end })
+stepOf f = stepFor (f .ending) (min 65536 (length (f .bytes))) (ltb 65536 (length (f .bytes))) (record { at = f .at; end = f .end })
 
 abbrev pub keptIn : List ℕ → List ℕ → List ℕ
-keptIn line w = take 512 w ++ drop (min 512 (length w)) line
+keptIn line w = take 65536 w ++ drop (min 65536 (length w)) line
 
 -- The answer is that of the search by the reads that were made, each of them before the line had ended. Only they are left open. A line
 -- that has not ended after 2 ^ 64 - 1 reads is given up.

@@ -46,7 +46,7 @@ fn ending_at(stop: usize, end: usize, ending: Ending) -> Ending
 }
 
 // The unread bytes up to the newline go into the line's buffer, as far as it has room.
-pub fn cut(chunk: &[u8; 65536], line: &mut [u8; 512], p: Part) -> Part
+pub fn cut(chunk: &[u8; 65536], line: &mut [u8; 65536], p: Part) -> Part
     requires { ⌜ Fit p ⌝ }
     ensures { λ r. ⌜ Cuts (now (chunk .entry)) (now (line .entry)) p r (now (line .exit)) ⌝ }
 {
@@ -55,7 +55,7 @@ pub fn cut(chunk: &[u8; 65536], line: &mut [u8; 512], p: Part) -> Part
     let len = p.len;
     let ending = p.ending;
     let stop = find(chunk, at, end);
-    let n = least(stop - at, 512 - len);
+    let n = least(stop - at, 65536 - len);
     output::inner::copy(line, len, chunk, at, n);
     Part {
         at: past(stop, end),

@@ -51,7 +51,7 @@ pub fn start() -> Cursor
 }
 
 // The next line. Nothing says that an input ends, so the reads are counted down from a number that no input uses up.
-pub fn next(chunk: &mut [u8; 65536], line: &mut [u8; 512], c: Cursor) -> Step
+pub fn next(chunk: &mut [u8; 65536], line: &mut [u8; 65536], c: Cursor) -> Step
     ensures { λ r. ⌜ Gives (now (chunk .entry)) (now (line .entry)) c r (now (chunk .exit)) (now (line .exit)) ⌝ }
 {
     let mut p = inner::cut(chunk, line, opened(c));
@@ -103,7 +103,7 @@ fn is_open(p: Part) -> bool
 }
 
 // Reads once, and cuts what came.
-fn turn(chunk: &mut [u8; 65536], line: &mut [u8; 512], p: Part) -> Part
+fn turn(chunk: &mut [u8; 65536], line: &mut [u8; 65536], p: Part) -> Part
     requires { ⌜ Fit p ⌝ }
     ensures { λ r. ⌜ Turns p (now (line .entry)) r (now (chunk .exit)) (now (line .exit)) ⌝ }
 {

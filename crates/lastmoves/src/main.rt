@@ -1,12 +1,13 @@
 // Answers each line of standard input, a text, with the last moves that its board may have had.
 use input::Step;
+use laws::Edition;
 use libc::STDERR_FILENO;
 use libc::STDOUT_FILENO;
 ghost use Prim.Native.Nat.{_≤_};
 
 fn main() {
     let mut chunk = io::large_buffer();
-    let mut line = [0u8; 512];
+    let mut line = io::large_buffer();
     let mut listed = [0u16; 8192];
     let mut strict = [0u16; 8192];
     let mut out = [0u8; 196608];
@@ -16,7 +17,7 @@ fn main() {
 // No input uses the turns up. Where nothing more can be written, nothing more is read.
 fn answer_all(
     chunk: &mut [u8; 65536],
-    line: &mut [u8; 512],
+    line: &mut [u8; 65536],
     listed: &mut [u16; 8192],
     strict: &mut [u16; 8192],
     out: &mut [u8; 196608],
@@ -43,18 +44,18 @@ fn answer_all(
     }
 }
 
-// One write a line. A line longer than its buffer has no form, and neither have its first 512 bytes.
+// One write a line. A line longer than its buffer has no form, and neither have its first 65,536 bytes.
 fn answer_line(
-    line: &[u8; 512],
+    line: &[u8; 65536],
     len: usize,
     listed: &mut [u16; 8192],
     strict: &mut [u16; 8192],
     out: &mut [u8; 196608],
 ) -> bool
-    requires { ⌜ len ≤ 512 ⌝ }
+    requires { ⌜ len ≤ 65536 ⌝ }
 {
     let text: &[u8] = line;
-    let n = reply::reply(&text[..len], listed, strict, out);
+    let n = reply::reply(&text[..len], Edition::A, listed, strict, out);
     let printed: &[u8] = out;
     io::write_all(STDOUT_FILENO, &printed[..n])
 }

@@ -53,7 +53,7 @@ rights-shown ρ = fun-ext λ c. fun-ext λ d. at c d
 
 -- a position on the 64 squares is that of its board
 pub pos-shown : (p : Pos) → OnBoard (p .men) → posOf (boardOf p) ≡ p
-pos-shown p on = λ i. record { men = men-shown (p .men) on i; turn = p .turn; rights = rights-shown (p .rights) i; state = p .state }
+pos-shown p on = λ i. record { men = men-shown (p .men) on i; turn = p .turn; rights = rights-shown (p .rights) i; state = p .state; terms = p .terms }
 
 pub shaped : (p : Pos) → Shaped (boardOf p)
 unfolding kindSets colorSets

@@ -14,6 +14,7 @@ use Rattle.geometry.specs.Lines.{between, sameRank, sameFile, sameDiagonal, cle
 use Rattle.laws.specs.declared.Piece.the-variants.{Rook}
 use Rattle.laws.specs.declared.EnPassantFlag.{EnPassantFlag}
 use Rattle.laws.specs.declared.EnPassantFlag.the-variants.{Some}
+use Rattle.laws.specs.declared.Edition.{Edition}
 use Rattle.laws.specs.declared.ChessRetraction.{ChessRetraction}
 use Rattle.laws.specs.Men.{Man, empty, man, Men, numbered, isEmpty, isOf, isPawn, bare, put}
 use Rattle.laws.specs.declared.Side.{Side}
@@ -44,6 +45,7 @@ sound p r ok h = record {
   sameMen = again .men-back;
   sameTurn = again .turn-back;
   sameRights = again .rights-back;
+  sameTerms = refl;
   sameState = right _ _ h;
 }
   where
@@ -80,12 +82,12 @@ crossed m Black short h = is-empty (m 61) (all-at 64 (λ k. not (between 60 63 k
 crossed m Black long h = is-empty (m 59) (all-at 64 (λ k. not (between 60 56 k) or isEmpty (m k)) h 59 (lit< tt))
 
 -- the state that en passant goes by
-passing : (p : Pos) (t s u : ℕ) → Passes p → goes p passant t s u ≡ true → stateOk (p .men) (p .turn) (Some (behind (p .turn) s)) ≡ true
+passing : (p : Pos) (t s u : ℕ) → Passes p → goes p passant t s u ≡ true → stateOk (p .terms .edition) (p .men) (p .turn) (Some (behind (p .turn) s)) ≡ true
 passing p t s u ok g =
-    subst (λ (st : EnPassantFlag). stateOk (p .men) (p .turn) st ≡ true) (state-named (p .state) (behind (p .turn) s) (right _ _ g)) (ok .state)
+    subst (λ (st : EnPassantFlag). stateOk (p .terms .edition) (p .men) (p .turn) st ≡ true) (state-named (p .state) (behind (p .turn) s) (right _ _ g)) (ok .state)
 
-taken-pawn : (p : Pos) (t s u : ℕ) → Passes p → goes p passant t s u ≡ true → Named (p .men) (p .turn) (behind (p .turn) s)
-taken-pawn p t s u ok g = names (p .men) (p .turn) (behind (p .turn) s) (passing p t s u ok g)
+taken-pawn : (p : Pos) (t s u : ℕ) → Passes p → goes p passant t s u ≡ true → Named (p .terms .edition) (p .men) (p .turn) (behind (p .turn) s)
+taken-pawn p t s u ok g = names (p .terms .edition) (p .men) (p .turn) (behind (p .turn) s) (passing p t s u ok g)
 
 -- what an accepted board says where a way goes
 pub ready : (w : Way) (p : Pos) (t s u : ℕ) → Passes p → goes p w t s u ≡ true → Ready w (p .turn) s (p .men)
@@ -96,12 +98,12 @@ ready (castling d) p t s u ok g =
 
 -- the un-made board goes the same way
 goes-on : (w : Way) (p : Pos) (t s u : ℕ) (ρ : Rights) → goes p w t s u ≡ true
-    → goes (record { men = p .men; turn = p .turn; rights = regained w (p .turn) ρ; state = stateBefore w (p .turn) s }) w t s u ≡ true
+    → goes (record { men = p .men; turn = p .turn; rights = regained w (p .turn) ρ; state = stateBefore w (p .turn) s; terms = p .terms }) w t s u ≡ true
 goes-on plain p t s u ρ g = g
 goes-on passant p t s u ρ g = both (left _ _ g) (eq-eqb (behind (p .turn) s) (behind (p .turn) s) refl)
 goes-on (castling d) p t s u ρ g = both (both (left _ _ (left _ _ g)) (or-right (ρ (p .turn) d) (same-right-self (p .turn) d))) (right _ _ g)
 
-state-on : (w : Way) (p : Pos) (t s u : ℕ) → Passes p → goes p w t s u ≡ true → stateOk (p .men) (p .turn) (stateBefore w (p .turn) s) ≡ true
+state-on : (w : Way) (p : Pos) (t s u : ℕ) → Passes p → goes p w t s u ≡ true → stateOk (p .terms .edition) (p .men) (p .turn) (stateBefore w (p .turn) s) ≡ true
 state-on plain p t s u ok g = refl
 state-on passant p t s u ok g = passing p t s u ok g
 state-on (castling d) p t s u ok g = refl
@@ -122,8 +124,8 @@ still k j {z} e = go (eqb j k)
     go false = e
 
 -- after a capture en passant: the pawn's square and the square ahead are empty, on the sixth rank
-passed : (c : Color) (m : Men) (t s : ℕ) (a : Man) → s < 64 → m s ≡ empty → Named m c (behind c s) → undoable passant c s (after passant c t s a m) ≡ true
-passed c m t s a hs ms st =
+passed : (v : Edition) (c : Color) (m : Men) (t s : ℕ) (a : Man) → s < 64 → m s ≡ empty → Named v m c (behind c s) → undoable passant c s (after passant c t s a m) ≡ true
+passed ed c m t s a hs ms st =
     both (both (eq-eqb _ _ (near .0)) (ap isEmpty (off s a v v≢s (still t v (put-at v empty m)))))
     (ap isEmpty (off s a (behind (opp c) s) (near .2) (still t (behind (opp c) s) (still v (behind (opp c) s) ahead))))
   where
@@ -144,7 +146,7 @@ pub undone : (w : Way) (p : Pos) (t s u : ℕ) (a : Man) → Passes p → goes p
     → isOf (p .turn) (p .men t) ≡ true → way (p .men t) t s u ≡ w → undoable w (p .turn) s (after w (p .turn) t s a (p .men)) ≡ true
 undone plain p t s u a ok g hs ms mt e = refl
 undone passant p t s u a ok g hs ms mt e =
-    passed (p .turn) (p .men) t s a hs (ms ∙ ap (numbered (opp (p .turn))) (passant-is (p .men t) t s u (p .turn) mt e .1)) (taken-pawn p t s u ok g)
+    passed (p .terms .edition) (p .turn) (p .men) t s a hs (ms ∙ ap (numbered (opp (p .turn))) (passant-is (p .men t) t s u (p .turn) mt e .1)) (taken-pawn p t s u ok g)
 undone (castling d) p t s u a ok g hs ms mt e =
     let k = castling-is (p .men t) t s u (p .turn) d mt e in
     subst (λ (t′ : ℕ). undoable (castling d) (p .turn) s (after (castling d) (p .turn) t′ s a (p .men)) ≡ true) (sym (k .0))
@@ -167,7 +169,7 @@ left-bare (castling d) c t s a m ne f =
 -- the board after the move, with any state, as a strict test sees it
 complete-at : (b : Pos) (r : ChessRetraction) (k : ℕ) (st : EnPassantFlag) → accepted b ≡ true → counts b ≡ true → legal b r k ≡ true
     → agrees st (replayed b r k .state) ≡ true
-    → strict (record { men = replayed b r k .men; turn = opp (b .turn); rights = replayed b r k .rights; state = st }) r ≡ true
+    → strict (record { men = replayed b r k .men; turn = opp (b .turn); rights = replayed b r k .rights; state = st; terms = b .terms }) r ≡ true
 complete-at b r k st ok few leg agr =
     ap (λ (z : Color). strictBy (wayBack z p r) z (unmadeBy (wayBack z p r) z p r) p r) (opp-opp c)
     ∙ ap (λ (z : Way). strictBy z c (unmadeBy z c p r) p r) same-way
@@ -202,10 +204,10 @@ complete-at b r k st ok few leg agr =
     a = arriving (r .unpromotion) x c k
 
     p : Pos
-    p = record { men = after w c t s a (b .men); turn = opp c; rights = kept t s (b .rights); state = st }
+    p = record { men = after w c t s a (b .men); turn = opp c; rights = kept t s (b .rights); state = st; terms = b .terms }
 
     earlier : Men → Pos
-    earlier z = record { men = z; turn = c; rights = regained w c (p .rights); state = stateBefore w c s }
+    earlier z = record { men = z; turn = c; rights = regained w c (p .rights); state = stateBefore w c s; terms = b .terms }
 
     move : Possible b r k
     move = possibly b r k (left _ _ (left _ _ leg))
@@ -269,7 +271,7 @@ complete-at b r k st ok few leg agr =
 pub complete : (e p : Pos) (r : ChessRetraction) (k : ℕ) → Gives e p r k → strict p r ≡ true
 complete e p r k h =
     subst (λ (b : Bool). b ≡ true)
-    (λ i. strict (record { men = h .sameMen i; turn = h .sameTurn i; rights = h .sameRights i; state = p .state }) r)
+    (λ i. strict (record { men = h .sameMen i; turn = h .sameTurn i; rights = h .sameRights i; state = p .state; terms = h .sameTerms i }) r)
     (complete-at e r k (p .state) (h .isAccepted) (h .isCounted) (h .isLegal) (h .sameState))
 
 -- demand 3, of positions

@@ -9,10 +9,11 @@ use Rattle.geometry.specs.declared.Color.{Color}
 use Rattle.geometry.specs.Colors.{opp, rankFor, behind}
 use Rattle.laws.specs.declared.Piece.the-variants.{Pawn}
 use Rattle.laws.specs.declared.EnPassantFlag.the-variants.{Some}
+use Rattle.laws.specs.declared.Edition.{Edition}
 use Rattle.laws.specs.declared.ChessRetraction.{ChessRetraction}
 use Rattle.laws.specs.Men.{empty, man, Men, numbered, isOf, isPawn}
 use Rattle.laws.specs.Positions.{Pos}
-use Rattle.laws.specs.Acceptance.{kingsOk, edge, pawnsOk, rightsOk, stateOk, beside, quiet, accepted}
+use Rattle.laws.specs.Acceptance.{kingsOk, edge, pawnsOk, rightsOk, stateOk, noted, quiet, accepted}
 use Rattle.laws.specs.declared.Way.{Way}
 use Rattle.laws.specs.Moves.{way, goes, markOk, possible}
 use Rattle.laws.specs.Unmaking.{held, undoable, promotedTo, retractable}
@@ -23,7 +24,7 @@ pub record Accepts (p : Pos) : Type 0 where
   pub kings : kingsOk (p .men) ≡ true
   pub pawns : pawnsOk (p .men) ≡ true
   pub rights : rightsOk (p .men) (p .rights) ≡ true
-  pub state : stateOk (p .men) (p .turn) (p .state) ≡ true
+  pub state : stateOk (p .terms .edition) (p .men) (p .turn) (p .state) ≡ true
   pub calm : quiet (p .men) (p .turn) ≡ true
 
 pub accepts : (p : Pos) → accepted p ≡ true → Accepts p
@@ -39,16 +40,16 @@ pub accepted-by : (p : Pos) → Accepts p → accepted p ≡ true
 accepted-by p a = both (both (both (both (a .kings) (a .pawns)) (a .rights)) (a .state)) (a .calm)
 
 -- a named square: the pawn that made a double step
-pub record Named (m : Men) (c : Color) (q : ℕ) : Type 0 where
+pub record Named (v : Edition) (m : Men) (c : Color) (q : ℕ) : Type 0 where
   pub on-board : q < 64
   pub stepped : m q ≡ man (opp c) Pawn
   pub on-fourth : rankFor (opp c) q ≡ 3
   pub crossed : m (behind (opp c) q) ≡ empty
   pub started : m (behind (opp c) (behind (opp c) q)) ≡ empty
-  pub neighbour : beside m (man c Pawn) q ≡ true
+  pub neighbour : noted v m c q ≡ true
 
-pub names : (m : Men) (c : Color) (q : ℕ) → stateOk m c (Some q) ≡ true → Named m c q
-names m c q h = record {
+pub names : (v : Edition) (m : Men) (c : Color) (q : ℕ) → stateOk v m c (Some q) ≡ true → Named v m c q
+names v m c q h = record {
   on-board = ltb-true q 64 (left _ _ (left _ _ (left _ _ (left _ _ (left _ _ h)))));
   stepped = same _ _ (right _ _ (left _ _ (left _ _ (left _ _ (left _ _ h)))));
   on-fourth = eqb-true _ _ (right _ _ (left _ _ (left _ _ (left _ _ h))));

@@ -19,3 +19,4 @@ pub mod StrictMembers
 pub mod BoardPasts
 pub mod Packing
 pub mod Onwards
+pub mod Turning

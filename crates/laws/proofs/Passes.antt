@@ -33,7 +33,7 @@ pub record Passes (p : Pos) : Type 0 where
   pub kings : kingsOk (p .men) ≡ true
   pub pawns : pawnsOk (p .men) ≡ true
   pub rights : rightsOk (p .men) (p .rights) ≡ true
-  pub state : stateOk (p .men) (p .turn) (p .state) ≡ true
+  pub state : stateOk (p .terms .edition) (p .men) (p .turn) (p .state) ≡ true
 
 pub passes-of : (p : Pos) → Accepts p → Passes p
 passes-of p a = record { kings = a .kings; pawns = a .pawns; rights = a .rights; state = a .state }
@@ -82,11 +82,11 @@ unmade-passes p r ok R = record {
         kings-back w (p .men) c d t s x y (b .can .target-in) (b .can .source-in) (b .can .target-bare) (no-king-numbered d (opp c) u)
         (same-weight c d (r .unpromotion) (p .men s) s (b .marked)) (b .can .undo) (λ e q. castling-is x t s u c e (b .mine) q .1)
 
-    state-at : (v : Way) → w ≡ v → stateOk (before v c t s x y (p .men)) c (stateBefore v c s) ≡ true
+    state-at : (v : Way) → w ≡ v → stateOk (p .terms .edition) (before v c t s x y (p .men)) c (stateBefore v c s) ≡ true
     state-at plain q = refl
     state-at (castling d) q = refl
     state-at passant q =
-        state-back (p .men) c t s x y (b .can .target-in) (around c t s (b .can .target-in) (b .can .source-in) (eqb-true _ _ (left _ _ (left _ _ un))) takes)
+        state-back (p .terms .edition) (p .men) c t s x y (b .can .target-in) (around c t s (b .can .target-in) (b .can .source-in) (eqb-true _ _ (left _ _ (left _ _ un))) takes)
         (k .0) (ap (numbered (opp c)) (k .1)) (is-empty _ (right _ _ un))
       where
         k : (x ≡ man c Pawn) × (u ≡ 0)

@@ -1,5 +1,5 @@
 -- The pawn that reappears may be named (5).
-use mathlib.Core.Path.{_≡_, ap, _∙_}
+use mathlib.Core.Path.{_≡_, refl, ap, _∙_}
 use mathlib.Core.Logic.{_≢_}
 use mathlib.Core.Bool.{true}
 use Prim.Native.Nat.{ℕ, _+_, _<_}
@@ -15,8 +15,10 @@ use Rattle.geometry.specs.Lines.{files}
 use Rattle.geometry.specs.Steps.{pawnTakes}
 use Rattle.laws.specs.declared.Piece.the-variants.{Pawn}
 use Rattle.laws.specs.declared.EnPassantFlag.the-variants.{Some}
+use Rattle.laws.specs.declared.Edition.{Edition}
+use Rattle.laws.specs.declared.Edition.the-variants.{A, B}
 use Rattle.laws.specs.Men.{Man, empty, man, Men, sameMan, isEmpty, put}
-use Rattle.laws.specs.Acceptance.{stateOk}
+use Rattle.laws.specs.Acceptance.{beside, noted, stateOk}
 use Rattle.laws.specs.declared.Way.the-variants.{Passant as passant}
 use Rattle.laws.specs.Unmaking.{before}
 use Rattle.squares.proofs.Testing.{left, right, both}
@@ -46,13 +48,18 @@ pub around : (c : Color) (t s : ℕ) → t < 64 → s < 64 → rankFor c s ≡ 5
 unfolding pawnTakes
 around c t s ht hs h5 h = numbers c t s ht hs h5 (eqb-true _ _ (left _ _ h)) (eqb-true _ _ (right _ _ h))
 
-pub state-back : (m : Men) (c : Color) (t s : ℕ) (x y : Man) → t < 64 → Around c t s → x ≡ man c Pawn → y ≡ empty → m (behind (opp c) s) ≡ empty
-    → stateOk (before passant c t s x y m) c (Some (behind c s)) ≡ true
-state-back m c t s x y ht a hx hy hm =
+-- a pawn beside the square is all that either edition asks
+enough : (v : Edition) (m : Men) (c : Color) (q : ℕ) → beside m (man c Pawn) q ≡ true → noted v m c q ≡ true
+enough A m c q h = h
+enough B m c q h = refl
+
+pub state-back : (v : Edition) (m : Men) (c : Color) (t s : ℕ) (x y : Man) → t < 64 → Around c t s → x ≡ man c Pawn → y ≡ empty → m (behind (opp c) s) ≡ empty
+    → stateOk v (before passant c t s x y m) c (Some (behind c s)) ≡ true
+state-back ed m c t s x y ht a hx hy hm =
     both (both (both (both (both (lt-ltb v 64 (a .v-in)) (same-self (e v) (man (opp c) Pawn) on-v)) (eq-eqb _ _ (a .v-rank)))
     (ap isEmpty (ap e (a .v-back) ∙ on-s))) (ap isEmpty (ap (λ (q : ℕ). e (behind (opp c) q)) (a .v-back) ∙ on-ahead)))
-    (any-of 64 (λ k. sameMan (e k) (man c Pawn) and eqb (rank k) (rank v) and eqb (files k v) 1) t ht
-    (both (both (same-self (e t) (man c Pawn) (put-at t x (put v (man (opp c) Pawn) (put s y m)) ∙ hx)) (eq-eqb _ _ (a .ranks-same))) (eq-eqb _ _ (a .files-one))))
+    (enough ed e c v (any-of 64 (λ k. sameMan (e k) (man c Pawn) and eqb (rank k) (rank v) and eqb (files k v) 1) t ht
+    (both (both (same-self (e t) (man c Pawn) (put-at t x (put v (man (opp c) Pawn) (put s y m)) ∙ hx)) (eq-eqb _ _ (a .ranks-same))) (eq-eqb _ _ (a .files-one)))))
   where
     v : ℕ
     v = behind c s

@@ -10,6 +10,8 @@ use Rattle.geometry.specs.Colors.{opp, rankFor, behind}
 use Rattle.geometry.specs.Lines.{files}
 use Rattle.laws.specs.declared.Piece.the-variants.{Pawn, Rook, King}
 use Rattle.laws.specs.declared.EnPassantFlag.{EnPassantFlag}
+use Rattle.laws.specs.declared.Edition.{Edition}
+use Rattle.laws.specs.declared.Edition.the-variants.{A, B}
 use Rattle.laws.specs.declared.EnPassantFlag.the-variants.{Any, Some, None}
 use Rattle.laws.specs.Men.{Man, man, Men, sameMan, isEmpty, isPawn}
 use Rattle.laws.specs.Attacks.{attacked}
@@ -41,14 +43,19 @@ rightsOk m ρ = rightOk m ρ White short and rightOk m ρ White long and rightOk
 abbrev pub beside : Men → Man → ℕ → Bool
 beside m x q = someSquare (λ k. sameMan (m k) x and eqb (rank k) (rank q) and eqb (files k q) 1)
 
+-- an edition asks of a double step to q, c being to move then: in A a pawn of c beside it, in B nothing
+abbrev pub noted : Edition → Men → Color → ℕ → Bool
+noted A m c q = beside m (man c Pawn) q
+noted B m c q = true
+
 -- 5 PASSANT, c to move: "a square is named that is above 63, or isn't a pawn of the retractor on the retractor's fourth rank with both
--- squares behind it empty and a pawn of the side to move beside it"
-abbrev pub stateOk : Men → Color → EnPassantFlag → Bool
-stateOk m c Any = true
-stateOk m c None = true
-stateOk m c (Some q) =
+-- squares behind it empty and a pawn of the side to move beside it"; "in B, 5 loses its neighbour clause"
+abbrev pub stateOk : Edition → Men → Color → EnPassantFlag → Bool
+stateOk v m c Any = true
+stateOk v m c None = true
+stateOk v m c (Some q) =
     ltb q 64 and sameMan (m q) (man (opp c) Pawn) and eqb (rankFor (opp c) q) 3
-    and isEmpty (m (behind (opp c) q)) and isEmpty (m (behind (opp c) (behind (opp c) q))) and beside m (man c Pawn) q
+    and isEmpty (m (behind (opp c) q)) and isEmpty (m (behind (opp c) (behind (opp c) q))) and noted v m c q
 
 -- 6 CHECK, c to move: "the retractor's king is attacked, by the other king included"
 abbrev pub quiet : Men → Color → Bool
@@ -57,5 +64,5 @@ quiet m c = everySquare (λ k. not (sameMan (m k) (man (opp c) King) and attacke
 -- 2 to 6
 abbrev pub accepted : Pos → Bool
 accepted p =
-    kingsOk (p .men) and pawnsOk (p .men) and rightsOk (p .men) (p .rights) and stateOk (p .men) (p .turn) (p .state)
+    kingsOk (p .men) and pawnsOk (p .men) and rightsOk (p .men) (p .rights) and stateOk (p .terms .edition) (p .men) (p .turn) (p .state)
     and quiet (p .men) (p .turn)

@@ -14,6 +14,7 @@ use Rattle.laws.specs.declared.Piece.{Piece}
 use Rattle.laws.specs.declared.Piece.the-variants.{Pawn, Knight, Bishop, Rook, Queen, King}
 use Rattle.laws.specs.declared.CastleRights.{CastleRights}
 use Rattle.laws.specs.declared.EnPassantFlag.{EnPassantFlag}
+use Rattle.laws.specs.declared.Terms.{Terms}
 use Rattle.laws.specs.declared.Position.{Position}
 use Rattle.laws.specs.declared.ChessRetraction.{ChessRetraction}
 use Rattle.laws.specs.Men.{Man, empty, man, Men, colorPlace, kindPlace, isOf, isKind}
@@ -85,7 +86,7 @@ abbrev pub menIn : Position → Men
 menIn p = menAt (p .pieces) (p .colors)
 
 abbrev pub posAt : Position → Pos
-posAt p = record { men = menIn p; turn = p .turn; rights = rightsOf (p .white) (p .black); state = p .passant }
+posAt p = record { men = menIn p; turn = p .turn; rights = rightsOf (p .white) (p .black); state = p .passant; terms = p .terms }
 
 pub record Board : Type 0 where
   pub pieces : List ℕ
@@ -97,10 +98,11 @@ pub record Board : Type 0 where
   pub pinned : ℕ
   pub checkers : ℕ
   pub passant : EnPassantFlag
+  pub terms : Terms
 
 -- its fields without the worked-out ones, and the position that they show
 abbrev pub fieldsOf : Board → Position
-fieldsOf b = record { pieces = b .pieces; colors = b .colors; turn = b .turn; white = b .white; black = b .black; passant = b .passant }
+fieldsOf b = record { pieces = b .pieces; colors = b .colors; turn = b .turn; white = b .white; black = b .black; passant = b .passant; terms = b .terms }
 
 abbrev pub posOf : Board → Pos
 posOf b = posAt (fieldsOf b)
@@ -134,6 +136,7 @@ boardOf p = record {
   pinned = pinsOf (p .men) (p .turn);
   checkers = checkersOf (p .men) (p .turn);
   passant = p .state;
+  terms = p .terms;
 }
 
 -- the past of a retraction, its earlier board being one of bit sets, accepted by 1 to 7

@@ -9,3 +9,4 @@ pub mod Unmaking
 pub mod Strictness
 pub mod StrictLists
 pub mod Boards
+pub mod Editions

@@ -9,6 +9,7 @@ use Rattle.geometry.specs.Lines.{files, ranks, clear}
 use Rattle.geometry.specs.Steps.{pawnStep, pawnDouble, pawnTakes}
 use Rattle.laws.specs.declared.Piece.the-variants.{Pawn, Knight, Bishop, Rook, Queen, King}
 use Rattle.laws.specs.declared.EnPassantFlag.{EnPassantFlag}
+use Rattle.laws.specs.declared.Edition.{Edition}
 use Rattle.laws.specs.declared.EnPassantFlag.the-variants.{Any, Some, None}
 use Rattle.laws.specs.declared.Way.{Way}
 use Rattle.laws.specs.declared.Way.the-variants.{Plain as plain, Passant as passant, Castle as castling}
@@ -18,7 +19,7 @@ use Rattle.laws.specs.Attacks.{attacks, attacked}
 use Rattle.laws.specs.declared.Side.{Side}
 use Rattle.laws.specs.declared.Side.the-variants.{Short as short, Long as long}
 use Rattle.laws.specs.Positions.{Rights, Pos, kingHome, corner, kingTo, rookTo}
-use Rattle.laws.specs.Acceptance.{beside, quiet}
+use Rattle.laws.specs.Acceptance.{noted, quiet}
 
 -- the way of the man x from t to s, taking the man numbered u: a pawn that takes nothing on another file takes en passant, and
 -- a king that goes from its home to g or c castles
@@ -100,15 +101,15 @@ keeps t s c d = not (eqb t (kingHome c)) and not (eqb t (corner c d)) and not (e
 abbrev pub kept : ℕ → ℕ → Rights → Rights
 kept t s ρ c d = ρ c d and keeps t s c d
 
--- "After it the state is the pawn's square if it was a double step beside an enemy pawn, otherwise none"
-abbrev pub stateAfter : Men → Man → ℕ → ℕ → EnPassantFlag
-stateAfter m empty t s = None
-stateAfter m (man c Pawn) t s = cond (eqb (ranks t s) 2 and beside m (man (opp c) Pawn) s) (Some s) None
-stateAfter m (man c Knight) t s = None
-stateAfter m (man c Bishop) t s = None
-stateAfter m (man c Rook) t s = None
-stateAfter m (man c Queen) t s = None
-stateAfter m (man c King) t s = None
+-- "After it the state is the pawn's square if it was a double step beside an enemy pawn, otherwise none"; in B, after any double step
+abbrev pub stateAfter : Edition → Men → Man → ℕ → ℕ → EnPassantFlag
+stateAfter v m empty t s = None
+stateAfter v m (man c Pawn) t s = cond (eqb (ranks t s) 2 and noted v m (opp c) s) (Some s) None
+stateAfter v m (man c Knight) t s = None
+stateAfter v m (man c Bishop) t s = None
+stateAfter v m (man c Rook) t s = None
+stateAfter v m (man c Queen) t s = None
+stateAfter v m (man c King) t s = None
 
 -- replay: "the men, turn, rights and state after the move"
 abbrev pub replayed : Pos → ChessRetraction → ℕ → Pos
@@ -120,7 +121,8 @@ replayed p r k =
       men = after (way x t s (r .uncaptured)) (p .turn) t s (arriving (r .unpromotion) x (p .turn) k) (p .men);
       turn = opp (p .turn);
       rights = kept t s (p .rights);
-      state = stateAfter (p .men) x t s;
+      state = stateAfter (p .terms .edition) (p .men) x t s;
+      terms = p .terms;
     }
 
 -- "castling out of or through attack excluded"

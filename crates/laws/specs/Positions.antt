@@ -1,4 +1,4 @@
--- A position: the men, the turn, the castling rights and the en passant state.
+-- A position: the men, the turn, the castling rights and the en passant state, which is read by an edition.
 use mathlib.Core.Bool.{Bool, true, false}
 use Prim.Native.Nat.{ℕ}
 use Rattle.geometry.specs.declared.Color.{Color}
@@ -9,6 +9,8 @@ use Rattle.laws.specs.declared.Side.the-variants.{Short as short, Long a
 use Rattle.laws.specs.declared.CastleRights.{CastleRights}
 use Rattle.laws.specs.declared.CastleRights.the-variants.{NoRights, KingSide, QueenSide, Both}
 use Rattle.laws.specs.declared.EnPassantFlag.{EnPassantFlag}
+use Rattle.laws.specs.declared.Edition.{Edition}
+use Rattle.laws.specs.declared.Terms.{Terms}
 use Rattle.laws.specs.Men.{Men}
 
 -- the right of a colour to castle on a side
@@ -35,11 +37,16 @@ rightsFor true false = KingSide
 rightsFor false true = QueenSide
 rightsFor false false = NoRights
 
+-- the terms of an edition
+abbrev pub termsOf : Edition → Terms
+termsOf v = record { edition = v }
+
 pub record Pos : Type 0 where
   pub men : Men
   pub turn : Color
   pub rights : Rights
   pub state : EnPassantFlag
+  pub terms : Terms
 
 -- "The retractor is the side not to move"
 abbrev pub retractor : Pos → Color

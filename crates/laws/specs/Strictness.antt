@@ -30,7 +30,7 @@ abbrev pub counts : Pos → Bool
 counts e = soulsOk (e .men)
 
 -- "some accepted earlier board with souls at most 8 a side has that move as a legal one, and the move gives today's men, turn, castling
--- rights and, unless unknown, today's en passant state": e is that board, p today's, k the kind promoted to
+-- rights and, unless unknown, today's en passant state", by today's terms: e is that board, p today's, k the kind promoted to
 pub record Gives (e p : Pos) (r : ChessRetraction) (k : ℕ) : Type 0 where
   pub isAccepted : accepted e ≡ true
   pub isCounted : counts e ≡ true
@@ -38,6 +38,7 @@ pub record Gives (e p : Pos) (r : ChessRetraction) (k : ℕ) : Type 0 where
   pub sameMen : replayed e r k .men ≡ p .men
   pub sameTurn : replayed e r k .turn ≡ p .turn
   pub sameRights : replayed e r k .rights ≡ p .rights
+  pub sameTerms : e .terms ≡ p .terms
   pub sameState : agrees (p .state) (replayed e r k .state) ≡ true
 
 abbrev pub Past : Pos → ChessRetraction → Type 0
@@ -47,7 +48,7 @@ Past p r = (e : Pos) × (k : ℕ) × Gives e p r k
 abbrev pub strictBy : Way → Color → Pos → Pos → ChessRetraction → Bool
 strictBy w c e p r =
     retractable w c e p r and accepted e and counts e and safe (e .men) w c
-    and agrees (p .state) (stateAfter (e .men) (e .men (r .target)) (r .target) (r .source))
+    and agrees (p .state) (stateAfter (e .terms .edition) (e .men) (e .men (r .target)) (r .target) (r .source))
 
 abbrev pub strict : Pos → ChessRetraction → Bool
 strict p r =

@@ -66,6 +66,7 @@ unmadeBy w c p r = record {
   turn = c;
   rights = regained w c (p .rights);
   state = stateBefore w c (r .source);
+  terms = p .terms;
 }
 
 abbrev pub wayBack : Color → Pos → ChessRetraction → Way

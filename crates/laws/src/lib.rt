@@ -1,6 +1,7 @@
 // The names of the board. What they mean, the Laws of chess and the rules of retraction, stands in specs/.
 pub use geometry::Color;
 ghost use mathlib.Core.Path.{_≡_};
+ghost use Rattle.laws.specs.Positions.{termsOf};
 ghost use Rattle.laws.specs.Retractions.{unpacked};
 
 pub mod inner; // inner.rt: packing into 16 bits; inner/castling.rt: rights and homes
@@ -42,7 +43,27 @@ pub enum EnPassantFlag {
     None,
 }
 
-// A board's fields without the worked-out ones: the sets of the men by kind and by colour, the turn, each colour's rights and the state.
+// How a board's state is read. Edition A: a dash says that no enemy pawn stood beside a double step. Edition B, the PGN reading: a dash says that
+// the last move was no double step, and a named square needs no pawn beside it.
+pub enum Edition {
+    A,
+    B,
+}
+
+// What a board is read by, and no move changes.
+pub struct Terms {
+    pub edition: Edition,
+}
+
+// The terms of an edition.
+pub fn terms_of(edition: Edition) -> Terms
+    ensures { λ r. ⌜ r ≡ termsOf edition ⌝ }
+{
+    Terms { edition }
+}
+
+// A board's fields without the worked-out ones: the sets of the men by kind and by colour, the turn, each colour's rights, the state, and the
+// terms that it is read by.
 pub struct Position {
     pub pieces: [u64; 6],
     pub colors: [u64; 2],
@@ -50,6 +71,7 @@ pub struct Position {
     pub white: CastleRights,
     pub black: CastleRights,
     pub passant: EnPassantFlag,
+    pub terms: Terms,
 }
 
 // A man goes back from the source (today) to the target (earlier); `uncaptured` is the number of the man that reappears on the source.

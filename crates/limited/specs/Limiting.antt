@@ -46,6 +46,7 @@ flipped b = record {
   pinned = b .pinned;
   checkers = b .checkers;
   passant = Any;
+  terms = b .terms;
 }
 
 -- the list (289 to 295), and the iterator over it has nothing to give (297 to 305)

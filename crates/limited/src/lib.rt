@@ -35,6 +35,7 @@ fn flip(b: RetractableBoard) -> RetractableBoard
     let turn = b.turn;
     let white = b.white;
     let black = b.black;
+    let terms = b.terms;
     RetractableBoard {
         pieces,
         colors,
@@ -45,6 +46,7 @@ fn flip(b: RetractableBoard) -> RetractableBoard
         pinned: b.pinned,
         checkers: b.checkers,
         passant: EnPassantFlag::Any,
+        terms,
     }
 }
 

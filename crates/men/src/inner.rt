@@ -1,6 +1,8 @@
 // Who stands where. `pieces` has a set for each kind, pawns first and kings last; `colors` has White's men and Black's.
 use laws::Color;
+use laws::Edition;
 use laws::Piece;
+use laws::Position;
 ghost use mathlib.Core.Path.{_≡_};
 ghost use mathlib.Core.Bool.{not, cond};
 ghost use Prim.Native.Nat.{_<_, _+_, _*_};
@@ -8,8 +10,8 @@ ghost use Rattle.squares.specs.Squares.{setOf};
 ghost use Rattle.laws.specs.Men.{man, colorPlace, kindNumber, kindPlace, manNumber, sameMan, isEmpty};
 ghost use Rattle.laws.specs.Attacks.{unionOf};
 ghost use Rattle.laws.specs.Souls as laws;
-ghost use Rattle.laws.specs.Boards.{kindBy, menAt, menOk, Clean};
-ghost use Rattle.men.specs.inner.Standing.{strange, menOf, nextTo, besideOf};
+ghost use Rattle.laws.specs.Boards.{kindBy, menAt, menIn, menOk, Clean};
+ghost use Rattle.men.specs.inner.Standing.{strange, menOf, nextTo, besideOf, notedOf};
 
 // The place of a colour in an array of two.
 pub fn color_place(c: Color) -> usize
@@ -169,4 +171,21 @@ pub fn pawn_beside(pieces: [u64; 6], colors: [u64; 2], color: Color, sq: u8) -> 
 {
     let near = next_to(sq);
     men_of(pieces, colors, Piece::Pawn, color) & near != 0
+}
+
+// What the position's edition asks of a double step to a square, the colour being to move then.
+pub fn is_noted(p: Position, color: Color, sq: u8) -> bool
+    requires { ⌜ Clean (p .pieces) (p .colors) × (sq < 64) ⌝ }
+    ensures { λ r. ⌜ r ≡ notedOf (p .terms .edition) (menIn p) color sq ⌝ }
+{
+    let terms = p.terms;
+    let edition = terms.edition;
+    match edition {
+        Edition::A => {
+            let pieces = p.pieces;
+            let colors = p.colors;
+            pawn_beside(pieces, colors, color, sq)
+        }
+        Edition::B => true,
+    }
 }

@@ -12,6 +12,8 @@ use Rattle.geometry.specs.Colors.{opp, ownRank, backOf}
 use Rattle.geometry.specs.Lines.{betweenOf}
 use Rattle.laws.specs.declared.EnPassantFlag.{EnPassantFlag}
 use Rattle.laws.specs.declared.EnPassantFlag.the-variants.{Any, Some, None}
+use Rattle.laws.specs.declared.Edition.{Edition}
+use Rattle.laws.specs.declared.Edition.the-variants.{A, B}
 use Rattle.retraction_list.specs.declared.SourceAndTargets.{SourceAndTargets}
 use Rattle.retraction_list.specs.declared.UnCaptureKind.the-variants.{Necessary, Forbidden}
 use Rattle.retraction_list.specs.Entries.{offered}
@@ -41,11 +43,12 @@ otherRayOf v n src =
     cond (eqb n 0 or (eqb n 1 and eqb (firstOf (v .checkers)) src)) allSquares
     (betweenOf (firstOf (bitAnd (v .checkers) (compl (only src)))) (v .oppking))
 
--- `match board.en_passant()` (243 to 247), where lonely says `ep_capturers & enemy_pawns == EMPTY`
-abbrev pub allowsOf : EnPassantFlag → Bool → Bool
-allowsOf Any lonely = true
-allowsOf (Some sq) lonely = false
-allowsOf None lonely = lonely
+-- `match board.en_passant()` (243 to 247), where lonely says `ep_capturers & enemy_pawns == EMPTY`; "in B a dash lists no double step"
+abbrev pub allowsOf : Edition → EnPassantFlag → Bool → Bool
+allowsOf v Any lonely = true
+allowsOf v (Some sq) lonely = false
+allowsOf A None lonely = lonely
+allowsOf B None lonely = false
 
 -- `ep_capturers` (241), and the test of a double push (242 to 249)
 abbrev pub capturersOf : ℕ → ℕ
@@ -53,7 +56,7 @@ capturersOf src = bitAnd (adjacentFiles src) (rankSet (rank src))
 
 unfoldable pub doubledOf : View → ℕ → ℕ → Bool
 doubledOf v src crossed =
-    eqb (rank src) (ownRank (v .color) 3) and allowsOf (v .passant) (eqb (bitAnd (capturersOf src) (v .rivals)) 0) and not (has (v .combined) crossed)
+    eqb (rank src) (ownRank (v .color) 3) and allowsOf (v .edition) (v .passant) (eqb (bitAnd (capturersOf src) (v .rivals)) 0) and not (has (v .combined) crossed)
 
 -- `targets` before the masks (239 to 251)
 unfoldable pub crossedOf : View → ℕ → ℕ → ℕ

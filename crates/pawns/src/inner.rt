@@ -1,6 +1,7 @@
 // Un-pushes and uncaptures of pawns and of men on the last rank, and the pawn's whole list. `t` is the table of `tables::between_table`, lent.
 use retraction_list::RetractionList;
 use retraction_list::UnCaptureKind;
+use view::Edition;
 use view::EnPassantFlag;
 use view::View;
 ghost use mathlib.Core.Path.{_≡_};
@@ -41,14 +42,17 @@ fn other_ray(t: &[u64; 4096], v: View, n: u32, src: u8) -> u64
     tables::inner::between(t, other, v.oppking)
 }
 
-// No pawn can take it en passant, or it isn't known whether one can.
-fn allows(e: EnPassantFlag, lonely: bool) -> bool
-    ensures { λ r. ⌜ r ≡ allowsOf e lonely ⌝ }
+// Unknown rules nothing out; a dash says that no pawn could take the one that stepped, or, in B, that none stepped.
+fn allows(edition: Edition, e: EnPassantFlag, lonely: bool) -> bool
+    ensures { λ r. ⌜ r ≡ allowsOf edition e lonely ⌝ }
 {
     match e {
         EnPassantFlag::Any => true,
         EnPassantFlag::Some(_) => false,
-        EnPassantFlag::None => lonely,
+        EnPassantFlag::None => match edition {
+            Edition::A => lonely,
+            Edition::B => false,
+        },
     }
 }
 
@@ -62,7 +66,8 @@ fn doubled(v: View, src: u8, crossed: u8) -> bool
     let files = view::inner::adjacent_files(src);
     let near = squares::get_rank(src / 8);
     let e = v.passant;
-    let may = allows(e, (files & near) & v.rivals == 0);
+    let edition = v.edition;
+    let may = allows(edition, e, (files & near) & v.rivals == 0);
     let blocked = squares::has(v.combined, crossed);
     ((src / 8 == fourth) & may) & !blocked
 }

@@ -132,8 +132,8 @@ accepted-typed : (b : Board) → acceptedBoard b ≡ true → Typed b
 accepted-typed b ok = record {
   checkers-fit = subst (λ (x : ℕ). x < 2 ^ 64) (sym (eqb-true (b .checkers) _ (right _ _ (left _ _ (right _ _ ok))))) (upTo-lt 64 _);
   square-fits = λ sq e.
-      names (posOf b .men) (b .turn) sq
-      (subst (λ (f : EnPassantFlag). stateOk (posOf b .men) (b .turn) f ≡ true) e (accepts (posOf b) (right _ _ (left _ _ ok)) .state)) .on-board;
+      names (b .terms .edition) (posOf b .men) (b .turn) sq
+      (subst (λ (f : EnPassantFlag). stateOk (b .terms .edition) (posOf b .men) (b .turn) f ≡ true) e (accepts (posOf b) (right _ _ (left _ _ ok)) .state)) .on-board;
 }
 
 pub accepted-same : (b : Board) → acceptedBoard b ≡ true → enumerateRetractions b ≡ listOf (viewAt b)

@@ -13,6 +13,8 @@ use Rattle.geometry.specs.Colors.{opp, ownRank, backOf}
 use Rattle.geometry.specs.Lines.{betweenOf}
 use Rattle.laws.specs.declared.EnPassantFlag.{EnPassantFlag}
 use Rattle.laws.specs.declared.EnPassantFlag.the-variants.{Any, Some, None}
+use Rattle.laws.specs.declared.Edition.{Edition}
+use Rattle.laws.specs.declared.Edition.the-variants.{A, B}
 use Rattle.laws.specs.Boards.{Board}
 use Rattle.retraction_list.specs.declared.UnCaptureKind.the-variants.{Necessary, Forbidden, UnEnPassant}
 use Rattle.view.specs.declared.View.{View}
@@ -35,10 +37,11 @@ unfolding backOf
 back-lt White sq = omega arith
 back-lt Black sq = omega arith
 
-unseen-is : (e : EnPassantFlag) (t : Bool) → pushUnseen e t ≡ allowsOf e t
-unseen-is Any t = refl
-unseen-is (Some sq) t = refl
-unseen-is None t = refl
+unseen-is : (v : Edition) (e : EnPassantFlag) (t : Bool) → pushUnseen v e t ≡ allowsOf v e t
+unseen-is v Any t = refl
+unseen-is v (Some sq) t = refl
+unseen-is A None t = refl
+unseen-is B None t = refl
 
 rank-is : (c : Color) → epRankOf c ≡ rankSet (ownRank c 5)
 rank-is White = refl
@@ -116,14 +119,14 @@ module _ (b : Board) (T : CheckType) where
 
   abbrev crossing : ℕ → ℕ → ℕ
   crossing src crossed =
-      if rank src == ownRank c 3 and pushUnseen (b .passant) (capturersOf src & s .rivals == EMPTY) and fromSquare crossed & b .combined == EMPTY
+      if rank src == ownRank c 3 and pushUnseen (b .terms .edition) (b .passant) (capturersOf src & s .rivals == EMPTY) and fromSquare crossed & b .combined == EMPTY
       then fromSquare crossed ¦ fromSquare (backOf c crossed) else fromSquare crossed
 
   crossing-is : (src crossed : ℕ) → crossed < 64 → crossing src crossed ≡ crossedOf s src crossed
   unfolding crossedOf doubledOf viewOf
   crossing-is src crossed h =
       ap₂ (λ (t u : Bool). cond (rank src == ownRank c 3 and t and u) (fromSquare crossed ¦ fromSquare (backOf c crossed)) (fromSquare crossed))
-      (unseen-is (b .passant) (capturersOf src & s .rivals == EMPTY)) (meets-none crossed (b .combined) h)
+      (unseen-is (b .terms .edition) (b .passant) (capturersOf src & s .rivals == EMPTY)) (meets-none crossed (b .combined) h)
 
   abbrev unpush : ℕ → ℕ
   unpush src =

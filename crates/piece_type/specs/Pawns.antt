@@ -12,6 +12,8 @@ use Rattle.geometry.specs.Lines.{betweenOf}
 use Rattle.laws.specs.declared.Piece.the-variants.{Pawn}
 use Rattle.laws.specs.declared.EnPassantFlag.{EnPassantFlag}
 use Rattle.laws.specs.declared.EnPassantFlag.the-variants.{Any, Some, None}
+use Rattle.laws.specs.declared.Edition.{Edition}
+use Rattle.laws.specs.declared.Edition.the-variants.{A, B}
 use Rattle.laws.specs.Boards.{Board}
 use Rattle.retraction_list.specs.declared.UnCaptureKind.the-variants.{Necessary, Forbidden, UnEnPassant}
 use Rattle.retraction_list.specs.Entries.{entryOf}
@@ -22,11 +24,12 @@ use Rattle.piece_type.specs.Boards.{piecesOf, colorCombined, kingSquare}
 use Rattle.piece_type.specs.Statements.{Run, _>>_, push, skip, when, for}
 use Rattle.piece_type.specs.PieceTypes.{CheckType, nbCheckers, PawnType}
 
--- `match board.en_passant()` (243 to 247): `None` asks the test
-abbrev pub pushUnseen : EnPassantFlag → Bool → Bool
-pushUnseen Any test = true
-pushUnseen None test = test
-pushUnseen (Some sq) test = false
+-- `match board.en_passant()` (243 to 247): `None` asks the test. So it is in edition A, which is the Rust's; "in B a dash lists no double step"
+abbrev pub pushUnseen : Edition → EnPassantFlag → Bool → Bool
+pushUnseen v Any test = true
+pushUnseen A None test = test
+pushUnseen B None test = false
+pushUnseen v (Some sq) test = false
 
 -- `match retracting_color` (286 to 289): `Rank::Sixth`, `Rank::Third`
 abbrev pub epRankOf : Color → ℕ
@@ -86,7 +89,7 @@ legals T board mask = do
     let epCapturers = adjacentFiles src & rankSet (rank src)
     let targets =
         if rank src == toFourthRank retractingColor
-        and pushUnseen (board .passant) (epCapturers & enemyPawns == EMPTY)
+        and pushUnseen (board .terms .edition) (board .passant) (epCapturers & enemyPawns == EMPTY)
         and fromSquare crossed & combined == EMPTY
         then targets ¦ fromSquare (ubackward retractingColor crossed)
         else targets

@@ -13,16 +13,22 @@ use Rattle.laws.specs.declared.CastleRights.{CastleRights}
 use Rattle.laws.specs.declared.CastleRights.the-variants.{NoRights, KingSide, QueenSide, Both}
 use Rattle.laws.specs.declared.EnPassantFlag.{EnPassantFlag}
 use Rattle.laws.specs.declared.EnPassantFlag.the-variants.{Any, Some, None}
+use Rattle.laws.specs.declared.Edition.{Edition}
+use Rattle.laws.specs.declared.Edition.the-variants.{A, B}
 use Rattle.laws.specs.Men.{Men}
 use Rattle.laws.specs.Acceptance.{stateOk}
 use Rattle.laws.specs.Boards.{Shaped}
 use Rattle.refusal.specs.Said.{firstFailing}
 use Rattle.board.specs.declared.RetractableBoard.{RetractableBoard}
 use Rattle.board.specs.Gate.{menOn, posOn, toLaws, boardTests}
-use Rattle.place.specs.Words.{colorWord, colorRead, rightsWord, rightsRead, stateWord, stateRead, wordsOf, boardRead}
+use Rattle.place.specs.Words.{markWord, editionRead, colorWord, colorRead, rightsWord, rightsRead, stateWord, stateRead, wordsOf, boardRead}
 use Rattle.laws.proofs.Facts.{accepts, names}
 use Rattle.board.proofs.Passing.{gate-passed}
 use Rattle.board.proofs.Numbers.{passed-gate}
+
+edition-back : (v : Edition) → editionRead (markWord v) ≡ v
+edition-back A = refl
+edition-back B = refl
 
 color-back : (c : Color) → colorRead (colorWord c) ≡ c
 color-back White = refl
@@ -35,11 +41,11 @@ rights-back QueenSide = refl
 rights-back Both = refl
 
 -- a state that passes 5 names a square of the board
-state-back : (m : Men) (c : Color) (st : EnPassantFlag) → stateOk m c st ≡ true → stateRead (stateWord st) ≡ st
-state-back m c Any h = refl
-state-back m c None h = refl
-state-back m c (Some q) h =
-    let l : q < 64 = names m c q h .on-board in
+state-back : (v : Edition) (m : Men) (c : Color) (st : EnPassantFlag) → stateOk v m c st ≡ true → stateRead (stateWord st) ≡ st
+state-back v m c Any h = refl
+state-back v m c None h = refl
+state-back v m c (Some q) h =
+    let l : q < 64 = names v m c q h .on-board in
     let a : eqb (q + 2) 0 ≡ false = ne-eqb (q + 2) 0 (λ e. omega arith) in
     let b : eqb (q + 2) 1 ≡ false = ne-eqb (q + 2) 1 (λ e. omega arith) in
     let u : q + 2 < 258 = omega arith in
@@ -66,8 +72,17 @@ pub words-length : (b : RetractableBoard) → length (wordsOf b) ≡ 16
 unfolding wordsOf
 words-length b = refl
 
+-- a place with the words of a board is not free
+mark-held : (v : Edition) → eqb (markWord v) 0 ≡ false
+mark-held A = refl
+mark-held B = refl
+
+pub words-held : (b : RetractableBoard) → eqb (getD (wordsOf b) 0 0) 0 ≡ false
+unfolding wordsOf
+words-held b = mark-held (b .terms .edition)
+
 pub keeps : (b : RetractableBoard) → Shaped (toLaws b) → firstFailing (boardTests b) ≡ 0 → boardRead (wordsOf b) ≡ b
 unfolding wordsOf boardRead
 keeps b z h =
-    let ok : stateOk (menOn b) (b .turn) (b .passant) ≡ true = accepts (posOn b) (gate-passed b (passed-gate b h) .lawful) .state in
-    rw (six (b .pieces) (z .six), two (b .colors) (z .two), color-back (b .turn), rights-back (b .white), rights-back (b .black), state-back (menOn b) (b .turn) (b .passant) ok)
+    let ok : stateOk (b .terms .edition) (menOn b) (b .turn) (b .passant) ≡ true = accepts (posOn b) (gate-passed b (passed-gate b h) .lawful) .state in
+    rw (six (b .pieces) (z .six), two (b .colors) (z .two), color-back (b .turn), rights-back (b .white), rights-back (b .black), state-back (b .terms .edition) (menOn b) (b .turn) (b .passant) ok, edition-back (b .terms .edition))

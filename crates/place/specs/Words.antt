@@ -10,13 +10,25 @@ use Rattle.laws.specs.declared.CastleRights.{CastleRights}
 use Rattle.laws.specs.declared.CastleRights.the-variants.{NoRights, KingSide, QueenSide, Both}
 use Rattle.laws.specs.declared.EnPassantFlag.{EnPassantFlag}
 use Rattle.laws.specs.declared.EnPassantFlag.the-variants.{Any, Some, None}
+use Rattle.laws.specs.declared.Edition.{Edition}
+use Rattle.laws.specs.declared.Edition.the-variants.{A, B}
+use Rattle.laws.specs.Positions.{termsOf}
 use Rattle.board.specs.declared.RetractableBoard.{RetractableBoard}
 
 -- how many words a place has
 abbrev pub placeWords : ℕ
 placeWords = 16
 
--- words of the enums, and back: any word is read as some value
+-- the mark of a place that holds a board says the board's edition; 0 is the mark of a free place
+abbrev pub markWord : Edition → ℕ
+markWord A = 1
+markWord B = 2
+
+-- a mark that no put writes is read as edition A
+abbrev pub editionRead : ℕ → Edition
+editionRead w = cond (eqb w 2) B A
+
+-- words of the other enums, and back: any word is read as some value
 abbrev pub colorWord : Color → ℕ
 colorWord White = 0
 colorWord Black = 1
@@ -45,7 +57,7 @@ stateRead w = cond (eqb w 0) Any (cond (eqb w 1) None (cond (ltb w 258) (Some (w
 -- a place that holds a board: its mark, six sets by kind, two by colour, the union, the turn, White's rights, Black's, pins, checkers, state
 unfoldable pub wordsOf : RetractableBoard → List ℕ
 wordsOf b =
-    1 ∷ getD (b .pieces) 0 0 ∷ getD (b .pieces) 1 0 ∷ getD (b .pieces) 2 0 ∷ getD (b .pieces) 3 0 ∷ getD (b .pieces) 4 0 ∷ getD (b .pieces) 5 0
+    markWord (b .terms .edition) ∷ getD (b .pieces) 0 0 ∷ getD (b .pieces) 1 0 ∷ getD (b .pieces) 2 0 ∷ getD (b .pieces) 3 0 ∷ getD (b .pieces) 4 0 ∷ getD (b .pieces) 5 0
     ∷ getD (b .colors) 0 0 ∷ getD (b .colors) 1 0 ∷ b .combined ∷ colorWord (b .turn) ∷ rightsWord (b .white) ∷ rightsWord (b .black)
     ∷ b .pinned ∷ b .checkers ∷ stateWord (b .passant) ∷ []
 
@@ -60,6 +72,7 @@ boardRead ws = record {
   pinned = getD ws 13 0;
   checkers = getD ws 14 0;
   passant = stateRead (getD ws 15 0);
+  terms = termsOf (editionRead (getD ws 0 0));
 }
 
 -- n words from the k-th on

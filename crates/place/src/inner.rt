@@ -3,12 +3,29 @@ use super::WORDS;
 use board::RetractableBoard;
 use laws::CastleRights;
 use laws::Color;
+use laws::Edition;
 use laws::EnPassantFlag;
 ghost use mathlib.Core.Path.{_≡_};
 ghost use Prim.Native.Nat.{_+_, _≤_};
 ghost use lib.ListN.{length};
 ghost use lib.Seq.{paste};
-ghost use Rattle.place.specs.Words.{placeWords, colorWord, colorRead, rightsWord, rightsRead, stateWord, stateRead, wordsOf, boardRead, wordsAt};
+ghost use Rattle.place.specs.Words.{placeWords, markWord, editionRead, colorWord, colorRead, rightsWord, rightsRead, stateWord, stateRead, wordsOf, boardRead, wordsAt};
+
+// The mark of a place that holds a board says the board's edition.
+fn mark_word(v: Edition) -> u64
+    ensures { λ r. ⌜ r ≡ markWord v ⌝ }
+{
+    match v {
+        Edition::A => 1,
+        Edition::B => 2,
+    }
+}
+
+fn edition_read(w: u64) -> Edition
+    ensures { λ r. ⌜ r ≡ editionRead w ⌝ }
+{
+    if w == 2 { Edition::B } else { Edition::A }
+}
 
 fn color_word(c: Color) -> u64
     ensures { λ r. ⌜ r ≡ colorWord c ⌝ }
@@ -82,16 +99,19 @@ pub fn words_of(b: RetractableBoard) -> [u64; WORDS]
 {
     let p = b.pieces;
     let c = b.colors;
+    let terms = b.terms;
+    let edition = terms.edition;
     let turn = b.turn;
     let white = b.white;
     let black = b.black;
     let state = b.passant;
+    let mw = mark_word(edition);
     let tw = color_word(turn);
     let ww = rights_word(white);
     let bw = rights_word(black);
     let sw = state_word(state);
     [
-        1,
+        mw,
         p[0],
         p[1],
         p[2],
@@ -114,6 +134,8 @@ pub fn words_of(b: RetractableBoard) -> [u64; WORDS]
 pub fn board_read(w: [u64; WORDS]) -> RetractableBoard
     ensures { λ r. ⌜ r ≡ boardRead w ⌝ }
 {
+    let edition = edition_read(w[0]);
+    let terms = laws::terms_of(edition);
     let turn = color_read(w[10]);
     let white = rights_read(w[11]);
     let black = rights_read(w[12]);
@@ -128,6 +150,7 @@ pub fn board_read(w: [u64; WORDS]) -> RetractableBoard
         pinned: w[13],
         checkers: w[14],
         passant,
+        terms,
     }
 }
 

@@ -28,7 +28,7 @@ module _ (p : Position) where
   -- a clean position is that of its own men
   pub with-own : Clean (p .pieces) (p .colors) → p ≡ withMen p (menIn p)
   unfolding withMen
-  with-own ok = λ i. record { pieces = ok .kinds i; colors = ok .colours i; turn = p .turn; white = p .white; black = p .black; passant = p .passant }
+  with-own ok = λ i. record { pieces = ok .kinds i; colors = ok .colours i; turn = p .turn; white = p .white; black = p .black; passant = p .passant; terms = p .terms }
 
   module _ (q : Position) (m : Men) (e : q ≡ withMen p m) (on : OnBoard m) where
     then-clean : Clean (q .pieces) (q .colors)

@@ -108,10 +108,11 @@ pub put-is : (p : Position) (s x : ℕ) {a b d e f g v w : ℕ} → Clean (p .pi
       white = p .white;
       black = p .black;
       passant = p .passant;
+      terms = p .terms;
     }) (withMen p (put s (manOf x) (menIn p)))
 unfolding withMen kindSets colorSets _and_
 put-is p s x {a} {b} {d} {e} {f} {g} {v} {w} ok few six two e₁ e₂ e₃ e₄ e₅ e₆ e₇ e₈ =
-    λ i. record { pieces = kinds i; colors = colours i; turn = p .turn; white = p .white; black = p .black; passant = p .passant }
+    λ i. record { pieces = kinds i; colors = colours i; turn = p .turn; white = p .white; black = p .black; passant = p .passant; terms = p .terms }
   where
     m : Men
     m = menAt (p .pieces) (p .colors)

@@ -3,9 +3,10 @@ use lib.ListN.{replicate}
 use Rattle.geometry.specs.declared.Color.the-variants.{White, Black}
 use Rattle.laws.specs.declared.CastleRights.the-variants.{NoRights}
 use Rattle.laws.specs.declared.EnPassantFlag.the-variants.{Any}
+use Rattle.laws.specs.declared.Edition.the-variants.{A}
 use Rattle.laws.specs.declared.Side.the-variants.{Short as short, Long as long}
 use Rattle.laws.specs.declared.Position.{Position}
-use Rattle.laws.specs.Positions.{Pos, rightsFor}
+use Rattle.laws.specs.Positions.{Pos, rightsFor, termsOf}
 use Rattle.laws.specs.Boards.{kindSets, colorSets}
 use Rattle.refusal.specs.declared.Refusal.{Refusal}
 use Rattle.refusal.specs.declared.Verdict.the-variants.{Accepted, Refused}
@@ -20,11 +21,12 @@ positionOf p = record {
   white = rightsFor (p .rights White short) (p .rights White long);
   black = rightsFor (p .rights Black short) (p .rights Black long);
   passant = p .state;
+  terms = p .terms;
 }
 
--- "A refusal writes nothing and returns no board": no men, White, no rights, Any
+-- "A refusal writes nothing and returns no board": no men, White, no rights, Any, edition A
 unfoldable pub noPosition : Position
-noPosition = record { pieces = replicate 6 0; colors = replicate 2 0; turn = White; white = NoRights; black = NoRights; passant = Any }
+noPosition = record { pieces = replicate 6 0; colors = replicate 2 0; turn = White; white = NoRights; black = NoRights; passant = Any; terms = termsOf A }
 
 -- an answer, and a refusal with the empty position
 abbrev pub answered : Position → Positioned

@@ -2,6 +2,7 @@
 use super::Positioned;
 use laws::CastleRights;
 use laws::Color;
+use laws::Edition;
 use laws::EnPassantFlag;
 use laws::Position;
 use refusal::Refusal;
@@ -93,6 +94,7 @@ pub fn is_pawn(x: u8) -> bool
 pub fn nothing() -> Position
     ensures { λ r. ⌜ r ≡ noPosition ⌝ }
 {
+    let terms = laws::terms_of(Edition::A);
     Position {
         pieces: [0; 6],
         colors: [0; 2],
@@ -100,6 +102,7 @@ pub fn nothing() -> Position
         white: CastleRights::NoRights,
         black: CastleRights::NoRights,
         passant: EnPassantFlag::Any,
+        terms,
     }
 }
 

@@ -14,16 +14,17 @@ use Rattle.geometry.specs.Lines.{apart, ranks}
 use Rattle.laws.specs.declared.Piece.the-variants.{Pawn, Rook}
 use Rattle.laws.specs.declared.CastleRights.{CastleRights}
 use Rattle.laws.specs.declared.EnPassantFlag.{EnPassantFlag}
+use Rattle.laws.specs.declared.Edition.{Edition}
 use Rattle.laws.specs.declared.EnPassantFlag.the-variants.{Some, None}
 use Rattle.laws.specs.declared.ChessRetraction.{ChessRetraction}
 use Rattle.laws.specs.Men.{Man, empty, man, Men, manNumber, manOf, isPawn}
 use Rattle.laws.specs.Positions.{Pos, rightsOf, rightsFor, corner, rookTo}
 use Rattle.laws.specs.declared.Side.the-variants.{Short as short, Long as long}
-use Rattle.laws.specs.Acceptance.{beside}
+use Rattle.laws.specs.Acceptance.{noted}
 use Rattle.laws.specs.declared.Way.the-variants.{Plain as plain, Passant as passant, Castle as castling}
 use Rattle.laws.specs.Moves.{way, cleared, filled, after, goes, markOk, arriving, stateAfter, replayed}
 use Rattle.laws.specs.Boards.{Clean, menIn, posAt}
-use Rattle.men.specs.inner.Standing.{besideOf}
+use Rattle.men.specs.inner.Standing.{notedOf}
 use Rattle.laws.specs.declared.Position.{Position}
 use Rattle.position.specs.inner.Edits.{withMen, manWith, colorBy}
 use Rattle.position.specs.Answers.{positionOf}
@@ -66,26 +67,26 @@ two-apart a b =
     (λ e. let h : apart a b ≡ 2 = eqb-true (apart a b) 2 e in ⊎-elim (λ l. or-right (eqb a (b + 2)) (eq-eqb b (a + 2) (omega arith))) (λ l. or-left (eqb b (a + 2)) (eq-eqb a (b + 2) (omega arith))) (order a b))
 
 -- the state by the code's one test
-state-with : (m : Men) (c : Color) (k t s : ℕ) → cond ((eqb k 1 && eqb (ranks t s) 2) && beside m (man (opp c) Pawn) s) (Some s) None ≡ stateAfter m (manWith c k) t s
+state-with : (v : Edition) (m : Men) (c : Color) (k t s : ℕ) → cond ((eqb k 1 && eqb (ranks t s) 2) && noted v m (opp c) s) (Some s) None ≡ stateAfter v m (manWith c k) t s
 unfolding _and_
-state-with m c zero t s = refl
-state-with m c (suc zero) t s = refl
-state-with m c (suc (suc zero)) t s = refl
-state-with m c (suc (suc (suc zero))) t s = refl
-state-with m c (suc (suc (suc (suc zero)))) t s = refl
-state-with m c (suc (suc (suc (suc (suc zero))))) t s = refl
-state-with m c (suc (suc (suc (suc (suc (suc n)))))) t s =
-    ap (λ (b : Bool). cond ((b && eqb (ranks t s) 2) && beside m (man (opp c) Pawn) s) (Some s) None) (ne-eqb (suc (suc (suc (suc (suc (suc n)))))) 1 (λ e. omega arith))
+state-with v m c zero t s = refl
+state-with v m c (suc zero) t s = refl
+state-with v m c (suc (suc zero)) t s = refl
+state-with v m c (suc (suc (suc zero))) t s = refl
+state-with v m c (suc (suc (suc (suc zero)))) t s = refl
+state-with v m c (suc (suc (suc (suc (suc zero))))) t s = refl
+state-with v m c (suc (suc (suc (suc (suc (suc n)))))) t s =
+    ap (λ (b : Bool). cond ((b && eqb (ranks t s) 2) && noted v m (opp c) s) (Some s) None) (ne-eqb (suc (suc (suc (suc (suc (suc n)))))) 1 (λ e. omega arith))
 
-pub state-is : (m : Men) (x t s : ℕ) {a d g z : Bool} {e : Color} → x < 14 → z ≡ ((a && d) && g) → a ≡ isPawn (manOf x) → d ≡ (eqb (t / 8) (s / 8 + 2) || eqb (s / 8) (t / 8 + 2))
-    → g ≡ besideOf m e s → e ≡ opp (colorBy x) → cond z (Some s) None ≡ stateFor m (manOf x) t s
-unfolding stateFor besideOf _or_
-state-is m x t s {a} {d} {g} {z} {e} h ez ea ed eg ee =
+pub state-is : (v : Edition) (m : Men) (x t s : ℕ) {a d g z : Bool} {e : Color} → x < 14 → z ≡ ((a && d) && g) → a ≡ isPawn (manOf x) → d ≡ (eqb (t / 8) (s / 8 + 2) || eqb (s / 8) (t / 8 + 2))
+    → g ≡ notedOf v m e s → e ≡ opp (colorBy x) → cond z (Some s) None ≡ stateFor v m (manOf x) t s
+unfolding stateFor notedOf _or_
+state-is v m x t s {a} {d} {g} {z} {e} h ez ea ed eg ee =
     ap (λ (b : Bool). cond b (Some s) None)
     (ez ∙ ap₂ (λ (i j : Bool). i && j)
     (ap₂ (λ (i j : Bool). i && j) (ea ∙ sym (kind-on x h Pawn)) (ed ∙ two-apart (t / 8) (s / 8)))
-    (eg ∙ ap (λ (q : Color). beside m (man q Pawn) s) ee))
-    ∙ state-with m (colorBy x) (x / 2) t s ∙ ap (λ (y : Man). stateAfter m y t s) (sym (man-split x h))
+    (eg ∙ ap (λ (q : Color). noted v m q s) ee))
+    ∙ state-with v m (colorBy x) (x / 2) t s ∙ ap (λ (y : Man). stateAfter v m y t s) (sym (man-split x h))
 
 -- what the test of the step tells
 fits-of : (p : Pos) (w : Way) (t s u : ℕ) → goes p w t s u ≡ true → Fits w (p .turn) s
@@ -129,8 +130,8 @@ module _ (p : Position) (r : ChessRetraction) (k : ℕ) (h : Goes p r k) where
         → m ≡ withMen p (afterFor w (p .turn) (r .target) (r .source) (manOf z) (menIn p)) → c ≡ opp (p .turn)
         → u ≡ rightsFor (rightsOf (p .white) (p .black) White short and keepsFor (r .target) (r .source) White short) (rightsOf (p .white) (p .black) White long and keepsFor (r .target) (r .source) White long)
         → v ≡ rightsFor (rightsOf (p .white) (p .black) Black short and keepsFor (r .target) (r .source) Black short) (rightsOf (p .white) (p .black) Black long and keepsFor (r .target) (r .source) Black long)
-        → f ≡ stateFor (menIn p) (manOf x) (r .target) (r .source)
-        → _≡_ {A = Position} (record { pieces = m .pieces; colors = m .colors; turn = c; white = u; black = v; passant = f }) (replayedFor (posAt p) r k)
+        → f ≡ stateFor (p .terms .edition) (menIn p) (manOf x) (r .target) (r .source)
+        → _≡_ {A = Position} (record { pieces = m .pieces; colors = m .colors; turn = c; white = u; black = v; passant = f; terms = m .terms }) (replayedFor (posAt p) r k)
     unfolding keepsFor stateFor afterFor replayedFor positionOf withMen
     forward-is z {m} ez em ec eu ev ef = λ i. record {
       pieces = (men i) .pieces;
@@ -138,7 +139,8 @@ module _ (p : Position) (r : ChessRetraction) (k : ℕ) (h : Goes p r k) where
       turn = ec i;
       white = eu i;
       black = ev i;
-      passant = (ef ∙ ap (λ (y : Man). stateAfter (menIn p) y (r .target) (r .source)) there) i;
+      passant = (ef ∙ ap (λ (y : Man). stateAfter (p .terms .edition) (menIn p) y (r .target) (r .source)) there) i;
+      terms = (men i) .terms;
     }
       where
         men : m ≡ withMen p (replayed (posAt p) r k .men)

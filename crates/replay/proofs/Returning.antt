@@ -46,7 +46,7 @@ field-back KingSide = refl
 field-back QueenSide = refl
 field-back Both = refl
 
--- an answer that gives back the arrays, the turn and the rights of p
+-- an answer that gives back the arrays, the turn, the rights and the terms of p
 pub record Returns (p : Position) (z : Positioned) : Type 0 where
   pub verdict-back : z .verdict ≡ Accepted
   pub pieces-back : z .position .pieces ≡ p .pieces
@@ -54,6 +54,7 @@ pub record Returns (p : Position) (z : Positioned) : Type 0 where
   pub turn-back : z .position .turn ≡ p .turn
   pub white-back : z .position .white ≡ p .white
   pub black-back : z .position .black ≡ p .black
+  pub terms-back : z .position .terms ≡ p .terms
 
 module _ (p : Position) (r : ChessRetraction) (ok : Clean (p .pieces) (p .colors)) (rights : rightsOk (menIn p) (rightsOf (p .white) (p .black)) ≡ true)
     (done : unmadeTo (posAt p) r .verdict ≡ Accepted) where
@@ -79,4 +80,5 @@ module _ (p : Position) (r : ChessRetraction) (ok : Clean (p .pieces) (p .colors
     turn-back = ap (λ (z : Positioned). z .position .turn) again ∙ back .turn-back;
     white-back = ap (λ (z : Positioned). z .position .white) again ∙ ap (λ (ρ : Rights). rightsFor (ρ White short) (ρ White long)) (back .rights-back) ∙ field-back (p .white);
     black-back = ap (λ (z : Positioned). z .position .black) again ∙ ap (λ (ρ : Rights). rightsFor (ρ Black short) (ρ Black long)) (back .rights-back) ∙ field-back (p .black);
+    terms-back = ap (λ (z : Positioned). z .position .terms) again;
   }

@@ -62,18 +62,16 @@ fn after(p: Position, w: Way, c: Color, t: u8, s: u8, x: u8) -> Position
     position::inner::put_man(ready, s, x)
 }
 
-// The state after a move of the man numbered x: the pawn's square after a double step beside an enemy pawn, else none.
+// The state after a move of the man numbered x: the pawn's square after a double step that the edition notes, else none.
 pub fn state_after(p: Position, x: u8, t: u8, s: u8) -> EnPassantFlag
     requires { ⌜ Clean (p .pieces) (p .colors) × (s < 64) × (x < 14) ⌝ }
-    ensures { λ r. ⌜ r ≡ stateFor (menIn p) (manOf x) t s ⌝ }
+    ensures { λ r. ⌜ r ≡ stateFor (p .terms .edition) (menIn p) (manOf x) t s ⌝ }
 {
-    let pieces = p.pieces;
-    let colors = p.colors;
     let d = geometry::other(position::inner::color_of(x));
     let a = t / 8;
     let b = s / 8;
     let double = (a == b + 2) | (b == a + 2);
-    let near = men::inner::pawn_beside(pieces, colors, d, s);
+    let near = men::inner::is_noted(p, d, s);
     if position::inner::is_pawn(x) & double & near {
         return EnPassantFlag::Some(s);
     }

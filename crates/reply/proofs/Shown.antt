@@ -46,13 +46,13 @@ written-added {t = t} {o = o} {out = out} {n = n} w =
     (adds o t 0 (omega (arith, w .fits)) out (w .holds ∙ sym (front o t)))
 
 -- `refused N`
-pub refused-shown : (r : Refusal) (o o₁ o₂ o₃ : List ℕ) (a d n x : ℕ) (v : Put) → length o ≡ 196608 → x < 2 ^ 64 → Adds o 0 word a o₁ → x ≡ numberOf r
-    → PutsDecimal o₁ a x v o₂ → d ≡ usedOf v a → Adds o₂ d newline n o₃ → Shows (refusedText (numberOf r)) n o o₃
-refused-shown r o o₁ o₂ o₃ a d n x v l f p e q u w =
+pub refused-shown : (o o₁ o₂ o₃ : List ℕ) (a d n x : ℕ) (v : Put) → length o ≡ 196608 → x < 2 ^ 64 → Adds o 0 word a o₁ → PutsDecimal o₁ a x v o₂
+    → d ≡ usedOf v a → Adds o₂ d newline n o₃ → Shows (refusedText x) n o o₃
+refused-shown o o₁ o₂ o₃ a d n x v l f p q u w =
     let s = number-short x f in
     let two = adds-then o o₁ o₂ word (decimalOf x) 0 a d (simp length-append (omega arith)) p (decimal-added o₁ o₂ a x v f q d u) in
     let three = adds-then o o₂ o₃ (word ++ decimalOf x) newline 0 d n (simp length-append (omega arith)) two w in
-    subst (λ (i : ℕ). Shows (refusedText i) n o o₃) e (shown o o₃ (refusedText x) n three (simp length-append (omega arith)))
+    shown o o₃ (refusedText x) n three (simp length-append (omega arith))
 
 pub text-short : (b : RetractableBoard) → length (textOn b) ≤ 81
 text-short b = print-short (menOn b) (b .turn) (b .white) (b .black) (b .passant)
@@ -72,7 +72,7 @@ module _ (b : RetractableBoard) (o o₁ : List ℕ) (m : ℕ) (l : length o ≡ 
   never-room k = omega (arith, text-short b, k .short)
 
 -- a refusal has a number
-pub never-refused : (why : Refusal) → numberOf why ≡ 0 → ⊥
+never-refused : (why : Refusal) → numberOf why ≡ 0 → ⊥
 never-refused why e = false≢true (sym (some-number why) ∙ eq-eqb (numberOf why) 0 e)
 
 pub never-failed : (b : RetractableBoard) {o out : List ℕ} {why : Refusal} → gateOf b ≡ Accepted → Failed (boardTests b) o why out → ⊥

@@ -5,7 +5,8 @@ use mathlib.Core.List.{List, [], _++_, map}
 use Prim.Native.Nat.{ℕ}
 use lib.Dec.{eqb}
 use lib.ListN.{length, take}
-use borrow.Author.Tests.{eqb-true}
+use borrow.Author.Tests.{eqb-true, eqb-false}
+use Rattle.laws.specs.declared.Edition.{Edition}
 use Rattle.laws.specs.declared.ChessRetraction.{ChessRetraction}
 use Rattle.laws.specs.Retractions.{packed}
 use Rattle.refusal.specs.declared.Refusal.{Refusal}
@@ -32,7 +33,6 @@ use Rattle.slots.proofs.Telling.{listing-tells}
 use Rattle.strict.proofs.Unique.{one-list}
 use Rattle.strict.proofs.Told.{demanded}
 use Rattle.reply.proofs.Slots.{roomy, roomless, passed-board, written-is}
-use Rattle.reply.proofs.Shown.{never-refused}
 
 -- the board is shown with its lists, or refused
 module _ (b : RetractableBoard) (moves : List ChessRetraction) {n : ℕ} {o out q : List ℕ} where
@@ -40,9 +40,9 @@ module _ (b : RetractableBoard) (moves : List ChessRetraction) {n : ℕ} {o out 
       → Shows (textOn b ++ newline ++ reportOf (map packed (sequenceOn b)) (map packed moves)) n o out → AnswersBoard 0 b n o out q strict
   answers-shown x k e s = record { moves = moves; exact = λ _. x; shows = rw k s; slots = e ∙ rw k }
 
-  answers-refused : {m : ℕ} (why : Refusal) → (m ≡ 0 → IsStrictList b moves) → numberOf why ≡ numberThen m (bothTests b moves)
-      → {strict : List ℕ} → strict ≡ q → Shows (refusedText (numberOf why)) n o out → AnswersBoard m b n o out q strict
-  answers-refused why x k e s = record { moves = moves; exact = x; shows = rw (← k, some-number why) s; slots = e ∙ rw (← k, some-number why) }
+  pub answers-refused : {m x : ℕ} → eqb x 0 ≡ false → (m ≡ 0 → IsStrictList b moves) → x ≡ numberThen m (bothTests b moves) → {strict : List ℕ} → strict ≡ q
+      → Shows (refusedText x) n o out → AnswersBoard m b n o out q strict
+  answers-refused z a k e s = record { moves = moves; exact = a; shows = rw (← k, z) s; slots = e ∙ rw (← k, z) }
 
 -- by what the strict list's slots told
 module _ (b : RetractableBoard) (passed : firstFailing (listedTests b) ≡ 0) {q after : List ℕ} (size : length q ≡ 8192) (r : Listed) (x : Lists b q r after) where
@@ -61,7 +61,7 @@ module _ (b : RetractableBoard) (passed : firstFailing (listedTests b) ≡ 0) {q
     pub strict-roomless : (k : ℕ) → r ≡ Room k → Shows (refusedText (numberOf room)) n o out → AnswersBoard 0 b n o out q after
     strict-roomless k e s =
         let w = listing-tells (x .moves) r (x .into) (Room k) e in
-        answers-refused b (x .moves) room (λ _. exact) (roomless (listedTests b) (x .moves) q passed size (w .short)) (w .holds) s
+        answers-refused b (x .moves) (some-number room) (λ _. exact) (roomless (listedTests b) (x .moves) q passed size (w .short)) (w .holds) s
 
 -- by what the ported list's slots told
 module _ (b : RetractableBoard) (g : gateOf b ≡ Accepted) {p after : List ℕ} (size : length p ≡ 8192) (r : Listed)
@@ -77,7 +77,7 @@ module _ (b : RetractableBoard) (g : gateOf b ≡ Accepted) {p after : List ℕ}
         → AnswersBoard 0 b n o out q q × (after ≡ listedThen 0 b p)
     stopped why h e s =
         let l = strictMoves (posOn b) in
-        (answers-refused b l why (λ _. demanded b g) (stop-on (listedTests b) (roomTest l) why h) refl s, e ∙ rw (← h, some-number why))
+        (answers-refused b l (some-number why) (λ _. demanded b g) (stop-on (listedTests b) (roomTest l) why h) refl s, e ∙ rw (← h, some-number why))
 
     pub board-roomless : (k : ℕ) → r ≡ Room k → Shows (refusedText (numberOf room)) n o out → AnswersBoard 0 b n o out q q × (after ≡ listedThen 0 b p)
     board-roomless k e s =
@@ -88,18 +88,18 @@ module _ (b : RetractableBoard) (g : gateOf b ≡ Accepted) {p after : List ℕ}
     board-refused why e s =
         let w = listing-tells (sequenceOn b) r x (notListed why) e in stopped why (stop-on (listTests b) (roomTest (sequenceOn b)) why (w .number)) (w .holds) s
 
+-- a line that its reader refuses by the number x is answered by it alone
+pub line-refused : (b : RetractableBoard) {m x n : ℕ} {o out p q : List ℕ} → eqb x 0 ≡ false → m ≡ x → Shows (refusedText x) n o out
+    → AnswersBoard m b n o out q q × (p ≡ listedThen m b p)
+line-refused b {x = x} z e s = (answers-refused b [] z (λ h. absurd (eqb-false x 0 z (sym e ∙ h))) (rw (e, z)) refl s, rw (e, z, z))
+
 -- what is read is answered
-module _ (t : List ℕ) (b : Boarded) (a : Reads t b) {n : ℕ} {o out p q : List ℕ} where
-  pub reply-refused : (why : Refusal) → b .verdict ≡ Refused why → Shows (refusedText (numberOf why)) n o out → Replies t n o out p p q q
-  reply-refused why e s = record {
-    read = b;
-    reads = a;
-    answers = answers-refused (b .board) [] why (λ h. absurd (never-refused why (sym (ap verdictNumber e) ∙ h))) (rw (e, some-number why)) refl s;
-    slots = rw (e, some-number why, some-number why);
-  }
+module _ (v : Edition) (t : List ℕ) (b : Boarded) (a : Reads v t b) {n : ℕ} {o out p q : List ℕ} where
+  pub reply-refused : (why : Refusal) → b .verdict ≡ Refused why → Shows (refusedText (numberOf why)) n o out → Replies v t n o out p p q q
+  reply-refused why e s = let w = line-refused (b .board) (some-number why) (ap verdictNumber e) s in record { read = b; reads = a; answers = w .0; slots = w .1 }
 
   pub reply-accepted : b .verdict ≡ Accepted → {listed strict : List ℕ} → AnswersBoard 0 (b .board) n o out q strict × (listed ≡ listedThen 0 (b .board) p)
-      → Replies t n o out p listed q strict
+      → Replies v t n o out p listed q strict
   reply-accepted e s = record { read = b; reads = a; answers = rw e (s .0); slots = rw e (s .1) }
 
 pub shows-one : {t u o x y : List ℕ} {n m : ℕ} → t ≡ u → Shows t n o x → Shows u m o y → (n ≡ m) × (x ≡ y)
@@ -123,8 +123,8 @@ answers-one {m} {b} {q = q} c d =
     by false e = (rw (e, e), rw (e, e))
 
 -- there is one answer to a line: its bytes, all of the buffer and of both slots
-pub reply-one : (t : List ℕ) (n m : ℕ) (o x y p l k q s u : List ℕ) → Replies t n o x p l q s → Replies t m o y p k q u → (n ≡ m) × (x ≡ y) × (l ≡ k) × (s ≡ u)
-reply-one t n m o x y p l k q s u a b =
-    let e : b .read ≡ a .read = read-one t (b .read) (a .read) (b .reads) (a .reads) in
+pub reply-one : (v : Edition) (t : List ℕ) (n m : ℕ) (o x y p l k q s u : List ℕ) → Replies v t n o x p l q s → Replies v t m o y p k q u → (n ≡ m) × (x ≡ y) × (l ≡ k) × (s ≡ u)
+reply-one v t n m o x y p l k q s u a b =
+    let e : b .read ≡ a .read = read-one v t (b .read) (a .read) (b .reads) (a .reads) in
     let h = answers-one (a .answers) (subst (λ (r : Boarded). AnswersBoard (verdictNumber (r .verdict)) (r .board) m o y q u) e (b .answers)) in
     (h .0, h .1, a .slots ∙ sym (ap (λ (r : Boarded). listedThen (verdictNumber (r .verdict)) (r .board) p) e) ∙ sym (b .slots), h .2)

@@ -6,6 +6,7 @@ use Prim.Native.Nat.{ℕ}
 use lib.Dec.{eqb, leb}
 use lib.ListN.{length, drop}
 use Rattle.io.specs.Counts.{Counts}
+use Rattle.laws.specs.declared.Edition.{Edition}
 use Rattle.laws.specs.declared.ChessRetraction.{ChessRetraction}
 use Rattle.laws.specs.Retractions.{packed}
 use Rattle.refusal.specs.declared.Refusal.the-variants.{Room}
@@ -74,9 +75,9 @@ pub record AnswersBoard (m : ℕ) (b : RetractableBoard) (n : ℕ) (o out q stri
 abbrev pub listedThen : ℕ → RetractableBoard → List ℕ → List ℕ
 listedThen m b p = slotsThen (numberThen m (listedTests b)) (sequenceOn b) p
 
--- the line t is answered
-pub record Replies (t : List ℕ) (n : ℕ) (o out p listed q strict : List ℕ) : Type 0 where
+-- the line t is answered, its text read in the edition v
+pub record Replies (v : Edition) (t : List ℕ) (n : ℕ) (o out p listed q strict : List ℕ) : Type 0 where
   pub read : Boarded
-  pub reads : Reads t read
+  pub reads : Reads v t read
   pub answers : AnswersBoard (verdictNumber (read .verdict)) (read .board) n o out q strict
   pub slots : listed ≡ listedThen (verdictNumber (read .verdict)) (read .board) p

@@ -1,5 +1,5 @@
-// The answer of a board that its gate let pass: the ported list, then the strict one, then both in writing. `t` is the table of squares
-// between, lent.
+// A refusal by its number; and the answer of a board that its gate let pass: the ported list, then the strict one, then both in writing. `t` is
+// the table of squares between, lent.
 use board::RetractableBoard;
 use refusal::Refusal;
 use slots::Listed;
@@ -16,7 +16,16 @@ ghost use Rattle.board.specs.Gate.{gateOf};
 ghost use Rattle.text.specs.Entries.{textOn};
 ghost use Rattle.retraction_gen.specs.Sequence.{sequenceOn};
 ghost use Rattle.rows.specs.Rows.{reportOf};
-ghost use Rattle.reply.specs.Replies.{newline, listedTests, Shows, AnswersBoard, listedThen};
+ghost use Rattle.reply.specs.Replies.{newline, refusedText, listedTests, Shows, AnswersBoard, listedThen};
+
+// `refused N`, and nothing else, by the number alone: records are refused by numbers that no board has.
+pub fn put_number(number: u8, out: &mut [u8; 196608]) -> usize
+    ensures { λ n. ⌜ Shows (refusedText number) n (now (out .entry)) (now (out .exit)) ⌝ }
+{
+    let a = output::put_bytes(out, 0, b"refused ").used(0);
+    let d = output::put_decimal(out, a, number as u64).used(a);
+    output::put_bytes(out, d, b"\n").used(d)
+}
 
 fn put_lists(b: RetractableBoard, listed: &[u16], strict: &[u16], out: &mut [u8; 196608]) -> usize
     requires { ⌜ (length (now listed) ≤ 8192) × (length (now strict) ≤ 8192) ⌝ }

@@ -2,6 +2,7 @@
 // lines of standard input, each with its presses behind it.
 use input::Cursor;
 use input::Step;
+use laws::Edition;
 use libc::STDERR_FILENO;
 use libc::STDIN_FILENO;
 use libc::STDOUT_FILENO;
@@ -35,7 +36,7 @@ struct Left {
 
 fn main() {
     let mut chunk = io::large_buffer();
-    let mut line = [0u8; 512];
+    let mut line = io::large_buffer();
     let mut strict = [0u16; 8192];
     let mut out = [0u8; 196608];
     let start = input::start();
@@ -60,7 +61,7 @@ fn main() {
 fn show_all(
     start: Cursor,
     chunk: &mut [u8; 65536],
-    line: &mut [u8; 512],
+    line: &mut [u8; 65536],
     strict: &mut [u16; 8192],
     out: &mut [u8; 196608],
 ) {
@@ -92,11 +93,11 @@ fn show(
     len: usize,
     unread: Cursor,
     chunk: &mut [u8; 65536],
-    line: &mut [u8; 512],
+    line: &mut [u8; 65536],
     strict: &mut [u16; 8192],
     out: &mut [u8; 196608],
 ) -> Left
-    requires { ⌜ len ≤ 512 ⌝ }
+    requires { ⌜ len ≤ 65536 ⌝ }
 {
     let text: &[u8] = line;
     let o = open(&text[..len], strict, out);
@@ -114,7 +115,7 @@ fn show(
 fn open(text: &[u8], strict: &mut [u16; 8192], out: &mut [u8; 196608]) -> Opened
     ensures { λ r. ⌜ r .strict ≤ 8192 ⌝ }
 {
-    let b = text::read(text);
+    let b = text::read(text, Edition::A);
     let board = b.board;
     let m = RetractionGen::new_legal(board);
     let cursor = m.cursor;
@@ -180,7 +181,7 @@ fn step_through(
     start: Screen,
     unread: Cursor,
     chunk: &mut [u8; 65536],
-    line: &mut [u8; 512],
+    line: &mut [u8; 65536],
     strict: &[u16],
     out: &mut [u8; 196608],
 ) -> Left {

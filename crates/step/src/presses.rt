@@ -13,7 +13,7 @@ pub enum Press {
 pub(super) fn next(
     by_key: bool,
     chunk: &mut [u8; 65536],
-    line: &mut [u8; 512],
+    line: &mut [u8; 65536],
     c: Cursor,
 ) -> Press {
     if by_key {
@@ -32,6 +32,6 @@ pub(super) fn failed() -> Press {
     Press::Over
 }
 
-fn first(line: &[u8; 512], len: usize) -> u8 {
+fn first(line: &[u8; 65536], len: usize) -> u8 {
     if len == 0 { 0 } else { line[0] }
 }

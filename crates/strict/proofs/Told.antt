@@ -61,6 +61,7 @@ fromLaws e = record {
   pinned = e .pinned;
   checkers = e .checkers;
   passant = e .passant;
+  terms = e .terms;
 }
 
 past-is : (b : RetractableBoard) (r : ChessRetraction) → BoardPast (toLaws b) r ↔ Past b r

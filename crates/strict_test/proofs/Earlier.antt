@@ -128,9 +128,9 @@ module _ (e : Position) (r : ChessRetraction) (today : EnPassantFlag) where
   unfolding earlierFor _and_
   miscounts a = rw a
 
-  module _ {x : ℕ} {after : EnPassantFlag} (is : x ≡ manNumber (menIn e (r .target))) (state : after ≡ stateFor (menIn e) (manOf x) (r .target) (r .source)) where
-    after-is : after ≡ stateFor (menIn e) (menIn e (r .target)) (r .target) (r .source)
-    after-is = state ∙ ap (λ (z : Man). stateFor (menIn e) z (r .target) (r .source)) (is-man (menIn e (r .target)) is)
+  module _ {x : ℕ} {after : EnPassantFlag} (is : x ≡ manNumber (menIn e (r .target))) (state : after ≡ stateFor (e .terms .edition) (menIn e) (manOf x) (r .target) (r .source)) where
+    after-is : after ≡ stateFor (e .terms .edition) (menIn e) (menIn e (r .target)) (r .target) (r .source)
+    after-is = state ∙ ap (λ (z : Man). stateFor (e .terms .edition) (menIn e) z (r .target) (r .source)) (is-man (menIn e (r .target)) is)
 
     pub no-agreement : countsFor (posAt e) ≡ true → agreesFor today after ≡ false → false ≡ earlierFor (posAt e) r today
     unfolding earlierFor _and_

@@ -11,6 +11,7 @@ use borrow.Author.Tests.{ltb-true, eqb-false}
 use Rattle.squares.specs.Tests.{_and_}
 use Rattle.geometry.specs.declared.Color.{Color}
 use Rattle.laws.specs.declared.EnPassantFlag.{EnPassantFlag}
+use Rattle.laws.specs.declared.Edition.{Edition}
 use Rattle.laws.specs.declared.EnPassantFlag.the-variants.{Any, Some, None}
 use Rattle.laws.specs.Men.{Men}
 use Rattle.laws.specs.Acceptance.{kingsOk, pawnsOk, rightsOk, stateOk, quiet}
@@ -46,84 +47,85 @@ use Rattle.board.proofs.Numbers.{gate-passes}
 use Rattle.text.proofs.Inverse.{says-one, says-short}
 
 -- any two answers to a text that the contract allows are the same
-pub read-one : (t : List ℕ) (a b : Boarded) → Reads t a → Reads t b → a ≡ b
-read-one t a b (said f s e) (said g u d) = boards-one a b (subst (λ (h : Position). Boards (rawTests h) (workedOf h) a) (says-one t f g s u) e) d
-read-one t a b (said f s e) (unsaid n d m) = absurd (n f s)
-read-one t a b (unsaid n e k) (said f s d) = absurd (n f s)
-read-one t a b (unsaid n e k) (unsaid m d l) = λ i. record { verdict = verdict-one (a .verdict) (b .verdict) (e ∙ sym d) i; board = (k ∙ sym l) i }
+pub read-one : (v : Edition) (t : List ℕ) (a b : Boarded) → Reads v t a → Reads v t b → a ≡ b
+read-one v t a b (said f s e) (said g u d) = boards-one a b (subst (λ (h : Position). Boards (rawTests h) (workedOf h) a) (says-one v t f g s u) e) d
+read-one v t a b (said f s e) (unsaid n d m) = absurd (n f s)
+read-one v t a b (unsaid n e k) (said f s d) = absurd (n f s)
+read-one v t a b (unsaid n e k) (unsaid m d l) = λ i. record { verdict = verdict-one (a .verdict) (b .verdict) (e ∙ sym d) i; board = (k ∙ sym l) i }
 
-pub read-said : (t : List ℕ) (r : Boarded) (f : Position) → Reads t r → Says f t → r ≡ newOf f
-read-said t r f (said g s e) u = new-is f r (subst (λ (h : Position). Boards (rawTests h) (workedOf h) r) (says-one t g f s u) e)
-read-said t r f (unsaid n e k) u = absurd (n f u)
+pub read-said : (v : Edition) (t : List ℕ) (r : Boarded) (f : Position) → Reads v t r → Says v f t → r ≡ newOf f
+read-said v t r f (said g s e) u = new-is f r (subst (λ (h : Position). Boards (rawTests h) (workedOf h) r) (says-one v t g f s u) e)
+read-said v t r f (unsaid n e k) u = absurd (n f u)
 
 -- the answer of the reader of fields, taken to the board
-pub read-in : (t : List ℕ) (raw : Raw) (r : Boarded) → Answers t raw → raw .form ≡ InForm → r ≡ newOf (raw .position) → Reads t r
-read-in t raw r a e h =
+pub read-in : (v : Edition) (t : List ℕ) (raw : Raw) (r : Boarded) → Answers v t raw → raw .form ≡ InForm → r ≡ newOf (raw .position) → Reads v t r
+read-in v t raw r a e h =
     let p = raw .position in
-    said p (subst (λ (v : Form). AnswersBy t p v) e a) (subst (Boards (rawTests p) (workedOf p)) (sym h) (boards-by _ _ _ (judged-number p)))
+    said p (subst (λ (z : Form). AnswersBy v t p z) e a) (subst (Boards (rawTests p) (workedOf p)) (sym h) (boards-by _ _ _ (judged-number p)))
 
-pub read-out : (t : List ℕ) (raw : Raw) (r : Boarded) → Answers t raw → raw .form ≡ OutOfForm → r ≡ boardedBy (Refused Text) noBoard → Reads t r
-read-out t raw r a e h =
-    unsaid ((subst (λ (v : Form). AnswersBy t (raw .position) v) e a) .1) (ap (λ (x : Boarded). verdictNumber (x .verdict)) h) (ap (λ (x : Boarded). x .board) h)
+pub read-out : (v : Edition) (t : List ℕ) (raw : Raw) (r : Boarded) → Answers v t raw → raw .form ≡ OutOfForm → r ≡ boardedBy (Refused Text) noBoard → Reads v t r
+read-out v t raw r a e h =
+    unsaid ((subst (λ (z : Form). AnswersBy v t (raw .position) z) e a) .1) (ap (λ (x : Boarded). verdictNumber (x .verdict)) h) (ap (λ (x : Boarded). x .board) h)
 
 -- 1 to 6 are never 14
-number-six : (p : Position) → firstFailing (rawTests p) ≡ 14 → ⊥
+pub number-six : (p : Position) → firstFailing (rawTests p) ≡ 14 → ⊥
 unfolding firstFailing _and_
 number-six p =
     eqb-false (firstFailing (rawTests p)) 14
     (agree-eq _ _ (by-cases 6
     (λ a b d e f g. agree (eqb (firstFailing ((a else men) ∷ (b else kings) ∷ (d else pawn) ∷ (e else rights) ∷ (f else passant) ∷ (g else check) ∷ [])) 14) false) refl
-    (menOk (p .pieces) (p .colors)) (kingsOk (menIn p)) (pawnsOk (menIn p)) (rightsOk (menIn p) (posAt p .rights)) (stateOk (menIn p) (p .turn) (p .passant)) (quiet (menIn p) (p .turn))))
+    (menOk (p .pieces) (p .colors)) (kingsOk (menIn p)) (pawnsOk (menIn p)) (rightsOk (menIn p) (posAt p .rights)) (stateOk (p .terms .edition) (menIn p) (p .turn) (p .passant)) (quiet (menIn p) (p .turn))))
 
 -- "14 TEXT: the text hasn't the form under Text": exactly then
-pub text-exactly : (t : List ℕ) (r : Boarded) → Reads t r → (verdictNumber (r .verdict) ≡ 14) ↔ ((f : Position) → Says f t → ⊥)
-text-exactly t r (said g s e) = (
+pub text-exactly : (v : Edition) (t : List ℕ) (r : Boarded) → Reads v t r → (verdictNumber (r .verdict) ≡ 14) ↔ ((f : Position) → Says v f t → ⊥)
+text-exactly v t r (said g s e) = (
   (λ h. absurd (number-six g (sym (e .number) ∙ h))),
   (λ n. absurd (n g s)),
 )
-text-exactly t r (unsaid n e k) = ((λ _. n), (λ _. e))
+text-exactly v t r (unsaid n e k) = ((λ _. n), (λ _. e))
 
-state-fits : (m : Men) (c : Color) (st : EnPassantFlag) → stateOk m c st ≡ true → StateFits st
-state-fits m c Any h = tt
-state-fits m c (Some q) h = ltb-true q 64 (left _ _ (left _ _ (left _ _ (left _ _ (left _ _ h)))))
-state-fits m c None h = tt
+state-fits : (v : Edition) (m : Men) (c : Color) (st : EnPassantFlag) → stateOk v m c st ≡ true → StateFits st
+state-fits v m c Any h = tt
+state-fits v m c (Some q) h = ltb-true q 64 (left _ _ (left _ _ (left _ _ (left _ _ (left _ _ h)))))
+state-fits v m c None h = tt
 
--- read after print: the text of an accepted board is read as that board, all of it
+-- read after print: the text of an accepted board, read in the board's own edition, is that board, all of it
 module _ (b : RetractableBoard) (six : length (b .pieces) ≡ 6) (two : length (b .colors) ≡ 2) (bp : Bounded (b .pieces)) (bc : Bounded (b .colors)) (h : gateOf b ≡ Accepted) where
-  text-said : Says (positionOn b) (textOn b)
+  text-said : Says (b .terms .edition) (positionOn b) (textOn b)
   text-said = record {
+    edition = refl;
     clean = gate-sound b six two bp bc h .clean;
-    square = state-fits (menOn b) (b .turn) (b .passant) (judged-passes (positionOn b) (gate-judged b h) .0 .passes .state);
+    square = state-fits (b .terms .edition) (menOn b) (b .turn) (b .passant) (judged-passes (positionOn b) (gate-judged b h) .0 .passes .state);
     text = refl;
   }
 
-  board-said : newOf (positionOn b) ≡ boardedBy Accepted b
+  pub board-said : newOf (positionOn b) ≡ boardedBy Accepted b
   board-said = ap (λ (v : Verdict). boardedBy v (workedOf (positionOn b))) (gate-judged b h) ∙ ap (boardedBy Accepted) (worked-whole b h)
 
-  pub read-after-print : (r : Boarded) → Reads (textOn b) r → r ≡ boardedBy Accepted b
-  read-after-print r a = read-said (textOn b) r (positionOn b) a text-said ∙ board-said
+  pub read-after-print : (r : Boarded) → Reads (b .terms .edition) (textOn b) r → r ≡ boardedBy Accepted b
+  read-after-print r a = read-said (b .terms .edition) (textOn b) r (positionOn b) a text-said ∙ board-said
 
 -- men that pass 1 to 6, worked out, pass 7
-gate-worked : (f : Position) → judgedOf f ≡ Accepted → gateOf (workedOf f) ≡ Accepted
+pub gate-worked : (f : Position) → judgedOf f ≡ Accepted → gateOf (workedOf f) ≡ Accepted
 unfolding gateOf
 gate-worked f h = ap₂ (λ (v : Verdict) (t : Bool). andThen v (unless t Stale Accepted)) h (fresh-worked f)
 
 -- a board that is read is accepted, and its text is the one that was read
-pub read-accepted : (t : List ℕ) (r : Boarded) → Reads t r → r .verdict ≡ Accepted → (gateOf (r .board) ≡ Accepted) × (textOn (r .board) ≡ t)
-read-accepted t r (said f s d) h =
+pub read-accepted : (v : Edition) (t : List ℕ) (r : Boarded) → Reads v t r → r .verdict ≡ Accepted → (gateOf (r .board) ≡ Accepted) × (textOn (r .board) ≡ t)
+read-accepted v t r (said f s d) h =
     let e = new-is f r d in
     let j : judgedOf f ≡ Accepted = sym (ap (λ (x : Boarded). x .verdict) e) ∙ h in
     let w : r .board ≡ workedOf f = ap (λ (x : Boarded). x .board) (e ∙ ap (λ (v : Verdict). boardedBy v (workedOf f)) j) in
     (ap gateOf w ∙ gate-worked f j, ap textOn w ∙ s .text)
-read-accepted t r (unsaid n e k) h = absurd (omega (arith, sym e ∙ ap verdictNumber h))
+read-accepted v t r (unsaid n e k) h = absurd (omega (arith, sym e ∙ ap verdictNumber h))
 
 -- print after read gives the bytes: what printing the board answers, and leaves in a slice, is what copying t does
-pub print-after-read : (t : List ℕ) (r : Boarded) → Reads t r → r .verdict ≡ Accepted → (o after : List ℕ) (x : Said)
+pub print-after-read : (v : Edition) (t : List ℕ) (r : Boarded) → Reads v t r → r .verdict ≡ Accepted → (o after : List ℕ) (x : Said)
     → Writes (boardTests (r .board)) (textOn (r .board)) o x after → Writes [] t o x after
-print-after-read t r a h o after x w =
-    let g = read-accepted t r a h in
+print-after-read v t r a h o after x w =
+    let g = read-accepted v t r a h in
     subst (λ (s : List ℕ). Writes [] s o x after) (g .1) (writes-passed (gate-passes (r .board) (gateOf (r .board)) refl (g .0)) w)
 
 -- "At most 81 bytes": a longer text is refused by 14
-pub long-refused : (t : List ℕ) (r : Boarded) → Reads t r → 81 < length t → verdictNumber (r .verdict) ≡ 14
-long-refused t r a h = text-exactly t r a .1 (λ f s. let k = says-short t f s in omega arith)
+pub long-refused : (v : Edition) (t : List ℕ) (r : Boarded) → Reads v t r → 81 < length t → verdictNumber (r .verdict) ≡ 14
+long-refused v t r a h = text-exactly v t r a .1 (λ f s. let k = says-short v t f s in omega arith)

@@ -9,7 +9,9 @@ use lib.Dec.{ltb}
 use lib.ListN.{length, getD}
 use borrow.Author.Tests.{lt-ltb, le-ltb}
 use Rattle.squares.specs.Squares.{file, rank}
+use Rattle.laws.specs.declared.Edition.{Edition}
 use Rattle.laws.specs.Men.{Man, empty, Men}
+use Rattle.laws.specs.Positions.{termsOf}
 use Rattle.laws.specs.Boards.{menAt, kindSets, colorSets}
 use Rattle.men_field.specs.Placement.{runText, squaresFrom, rankText, ranksText, menText}
 use Rattle.text.specs.declared.Form.{Form}
@@ -30,9 +32,9 @@ same-ranks m zero = refl
 same-ranks m (suc r) = ap (λ (t : List ℕ). 47 ∷ rankText m r ++ t) (same-ranks m r)
 
 -- what says fields has the form
-pub says-formed : (t : List ℕ) (f : Position) → Says f t → Formed t
+pub says-formed : (v : Edition) (t : List ℕ) (f : Position) → Says v f t → Formed t
 unfolding printOf menText
-says-formed t f s =
+says-formed v t f s =
     let m = menAt (f .pieces) (f .colors) in
     record {
       ranks = rankText m;
@@ -44,6 +46,11 @@ says-formed t f s =
       square = s .square;
       text = ap (λ (x : List ℕ). (rankText m 7 ++ x) ++ tailText (f .turn) (f .white) (f .black) (f .passant)) (same-ranks m 7) ∙ s .text;
     }
+
+-- with the same state
+pub says-state : (v : Edition) (t : List ℕ) (f : Position) (s : Says v f t) → says-formed v t f s .passant ≡ f .passant
+unfolding says-formed
+says-state v t f s = refl
 
 -- the men of eight lists of squares
 menBy : (ℕ → List Man) → Men
@@ -99,13 +106,14 @@ module _ (t : List ℕ) (w : Formed t) where
   rank-there r h = let e = squares-by r (order r 8) h in rank-is squaresOf r h (e .0) ∙ e .1
 
   -- what has the form says fields
-  pub formed-says : (f : Position) × Says f t
+  pub formed-says : (v : Edition) → (f : Position) × Says v f t
   unfolding printOf menText
-  formed-says =
+  formed-says v =
       let m = menBy squaresOf in
       let tail = tailText (w .turn) (w .white) (w .black) (w .passant) in (
-        record { pieces = kindSets (menBy squaresOf); colors = colorSets (menBy squaresOf); turn = w .turn; white = w .white; black = w .black; passant = w .passant },
+        record { pieces = kindSets (menBy squaresOf); colors = colorSets (menBy squaresOf); turn = w .turn; white = w .white; black = w .black; passant = w .passant; terms = termsOf v },
         record {
+          edition = refl;
           clean = read-clean m (men-by-on squaresOf);
           square = w .square;
           text =
@@ -116,11 +124,15 @@ module _ (t : List ℕ) (w : Formed t) where
         },
       )
 
--- the reader's verdict, in document 01's words: in form exactly when the text has the form
-pub in-form-formed : (t : List ℕ) (r : Raw) → Answers t r → r .form ≡ InForm → Formed t
-in-form-formed t r a e = says-formed t (r .position) (subst (λ (v : Form). AnswersBy t (r .position) v) e a)
+  pub formed-state : (v : Edition) → formed-says v .0 .passant ≡ w .passant
+  unfolding formed-says
+  formed-state v = refl
 
-pub out-of-form-not-formed : (t : List ℕ) (r : Raw) → Answers t r → r .form ≡ OutOfForm → Formed t → ⊥
-out-of-form-not-formed t r a e w =
-    let s = formed-says t w in
-    (subst (λ (v : Form). AnswersBy t (r .position) v) e a) .1 (s .0) (s .1)
+-- the reader's verdict, in document 01's words: in form exactly when the text has the form
+pub in-form-formed : (v : Edition) (t : List ℕ) (r : Raw) → Answers v t r → r .form ≡ InForm → Formed t
+in-form-formed v t r a e = says-formed v t (r .position) (subst (λ (z : Form). AnswersBy v t (r .position) z) e a)
+
+pub out-of-form-not-formed : (v : Edition) (t : List ℕ) (r : Raw) → Answers v t r → r .form ≡ OutOfForm → Formed t → ⊥
+out-of-form-not-formed v t r a e w =
+    let s = formed-says t w v in
+    (subst (λ (z : Form). AnswersBy v t (r .position) z) e a) .1 (s .0) (s .1)

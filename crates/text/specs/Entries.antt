@@ -13,13 +13,15 @@ use Rattle.board.specs.Answers.{workedOf}
 use Rattle.board.specs.Said.{Boards}
 use Rattle.text.specs.declared.Printed.{Printed}
 use Rattle.text.specs.declared.Printed.the-variants.{Count, Room, Refused}
+use Rattle.laws.specs.declared.Edition.{Edition}
 use Rattle.laws.specs.declared.Position.{Position}
 use Rattle.text.specs.Form.{Says, printed}
 
--- "text through 14, then 1 to 6": the board of the position that the text says, through 1 to 6, or 14 beside the empty board where it says none
-pub data Reads (t : List ℕ) (r : Boarded) : Type 0 where
-  said : (f : Position) → Says f t → Boards (rawTests f) (workedOf f) r → Reads t r
-  unsaid : ((f : Position) → Says f t → ⊥) → verdictNumber (r .verdict) ≡ numberOf text → r .board ≡ noBoard → Reads t r
+-- "text through 14, then 1 to 6": the board of the position that the text says in the caller's edition, through 1 to 6, or 14 beside the
+-- empty board where it says none
+pub data Reads (v : Edition) (t : List ℕ) (r : Boarded) : Type 0 where
+  said : (f : Position) → Says v f t → Boards (rawTests f) (workedOf f) r → Reads v t r
+  unsaid : ((f : Position) → Says v f t → ⊥) → verdictNumber (r .verdict) ≡ numberOf text → r .board ≡ noBoard → Reads v t r
 
 -- the text of a board
 abbrev pub textOn : RetractableBoard → List ℕ

@@ -7,9 +7,11 @@ use Rattle.geometry.specs.declared.Color.the-variants.{White, Black}
 use Rattle.laws.specs.declared.CastleRights.{CastleRights}
 use Rattle.laws.specs.declared.CastleRights.the-variants.{NoRights, KingSide, QueenSide, Both}
 use Rattle.laws.specs.declared.EnPassantFlag.{EnPassantFlag}
+use Rattle.laws.specs.declared.Edition.{Edition}
 use Rattle.laws.specs.declared.EnPassantFlag.the-variants.{Any, Some, None}
 use Rattle.laws.specs.declared.Position.{Position}
 use Rattle.laws.specs.Men.{Men}
+use Rattle.laws.specs.Positions.{termsOf}
 use Rattle.laws.specs.Boards.{menIn, Clean}
 use Rattle.position.specs.Answers.{noPosition}
 use Rattle.men_field.specs.Placement.{squareName, menText}
@@ -61,16 +63,18 @@ StateFits Any = Unit {0}
 StateFits (Some s) = s < 64
 StateFits None = Unit {0}
 
--- the text t says f: its men are clean, a square that it names is of the board, and the printer writes t of them
-pub record Says (f : Position) (t : List ℕ) : Type 0 where
+-- the text t says f in the edition v, which the text does not name: its men are clean, a square that it names is of the board, and the
+-- printer writes t of them
+pub record Says (v : Edition) (f : Position) (t : List ℕ) : Type 0 where
+  pub edition : f .terms ≡ termsOf v
   pub clean : Clean (f .pieces) (f .colors)
   pub square : StateFits (f .passant)
   pub text : printed f ≡ t
 
 -- "14 TEXT: the text hasn't the form under Text": in form exactly when the text says the position, out of form exactly when it says none
-abbrev pub AnswersBy : List ℕ → Position → Form → Type 0
-AnswersBy t f InForm = Says f t
-AnswersBy t f OutOfForm = (f ≡ noPosition) × ((g : Position) → Says g t → ⊥)
+abbrev pub AnswersBy : Edition → List ℕ → Position → Form → Type 0
+AnswersBy v t f InForm = Says v f t
+AnswersBy v t f OutOfForm = (f ≡ noPosition) × ((g : Position) → Says v g t → ⊥)
 
-abbrev pub Answers : List ℕ → Raw → Type 0
-Answers t r = AnswersBy t (r .position) (r .form)
+abbrev pub Answers : Edition → List ℕ → Raw → Type 0
+Answers v t r = AnswersBy v t (r .position) (r .form)

@@ -8,6 +8,7 @@ use board::Boarded;
 use board::RetractableBoard;
 use geometry::Color;
 use laws::CastleRights;
+use laws::Edition;
 use laws::EnPassantFlag;
 use laws::Position;
 use men_field::inner::push;
@@ -291,8 +292,8 @@ fn flag_of(n: u8) -> EnPassantFlag
     EnPassantFlag::Some(n % 64)
 }
 
-fn raw_of(s: Scan) -> Raw
-    ensures { λ r. ⌜ r ≡ rawOf s ⌝ }
+fn raw_of(s: Scan, edition: Edition) -> Raw
+    ensures { λ r. ⌜ r ≡ rawOf edition s ⌝ }
 {
     let men = s.men;
     let sets = men_field::inner::sets_of(men);
@@ -302,6 +303,7 @@ fn raw_of(s: Scan) -> Raw
     let white = side_of(s.rights % 4);
     let black = side_of(s.rights / 4);
     let passant = flag_of(s.square);
+    let terms = laws::terms_of(edition);
     let position = Position {
         pieces: pieces,
         colors: colors,
@@ -309,6 +311,7 @@ fn raw_of(s: Scan) -> Raw
         white: white,
         black: black,
         passant: passant,
+        terms: terms,
     };
     Raw {
         form: Form::InForm,
@@ -327,10 +330,10 @@ fn no_raw() -> Raw
 }
 
 // What the text would say, if the printer writes just this text of it.
-pub fn read_raw(text: &[u8]) -> Raw
-    ensures { λ r. ⌜ Answers (now (text .entry)) r ⌝ }
+pub fn read_raw(text: &[u8], edition: Edition) -> Raw
+    ensures { λ r. ⌜ Answers edition (now (text .entry)) r ⌝ }
 {
-    let raw = raw_of(walk(text));
+    let raw = raw_of(walk(text), edition);
     let p = raw.position;
     let line = line_of(p);
     if same(line, text) {
@@ -340,11 +343,11 @@ pub fn read_raw(text: &[u8]) -> Raw
 }
 
 // A board from a text: refusal 14, then 1 to 6. `t` is the table of squares between, lent.
-pub fn read(t: &[u64; 4096], text: &[u8]) -> Boarded
+pub fn read(t: &[u64; 4096], text: &[u8], edition: Edition) -> Boarded
     requires { ⌜ IsBetween (now t) ⌝ }
-    ensures { λ r. ⌜ Reads (now (text .entry)) r ⌝ }
+    ensures { λ r. ⌜ Reads edition (now (text .entry)) r ⌝ }
 {
-    let raw = read_raw(text);
+    let raw = read_raw(text, edition);
     let form = raw.form;
     match form {
         Form::OutOfForm => {

@@ -1,6 +1,7 @@
 // The text of a board: four fields, printed and read. What a text is stands in specs/Form, what the entries answer in specs/Entries.
 use board::Boarded;
 use board::RetractableBoard;
+use laws::Edition;
 use laws::Position;
 pub use men_field::Line;
 use refusal::Refusal;
@@ -48,12 +49,12 @@ pub enum Printed {
     Refused(Refusal),
 }
 
-// A board from a text: refusal 14, then 1 to 6.
-pub fn read(text: &[u8]) -> Boarded
-    ensures { λ r. ⌜ Reads (now (text .entry)) r ⌝ }
+// A board from a text, which the caller reads in an edition: refusal 14, then 1 to 6.
+pub fn read(text: &[u8], edition: Edition) -> Boarded
+    ensures { λ r. ⌜ Reads edition (now (text .entry)) r ⌝ }
 {
     let t = tables::between_table();
-    inner::read(&t, text)
+    inner::read(&t, text, edition)
 }
 
 // The text of a board, into a lent slice: refusals 1 to 7, then 13. Only a whole text is written.

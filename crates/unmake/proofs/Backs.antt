@@ -55,7 +55,7 @@ module _ (p : Position) (r : ChessRetraction) (w : Way) (c : Color) {x : ℕ} (h
       → m ≡ withMen p (beforeFor w c (r .target) (r .source) (manOf x) (manOf y) (menIn p)) → d ≡ opp c → y ≡ manNumber (manWith d (r .uncaptured))
       → u ≡ rightsFor (earlier .rights White short) (earlier .rights White long) → v ≡ rightsFor (earlier .rights Black short) (earlier .rights Black long)
       → f ≡ earlier .state → t ≡ c
-      → _≡_ {A = Position} (record { pieces = m .pieces; colors = m .colors; turn = t; white = u; black = v; passant = f }) (positionOf earlier)
+      → _≡_ {A = Position} (record { pieces = m .pieces; colors = m .colors; turn = t; white = u; black = v; passant = f; terms = m .terms }) (positionOf earlier)
   unfolding positionOf withMen beforeFor
   unmade-is y {m} {d} {t} {u} {v} {f} em ed ey eu ev ef et = λ i. record {
     pieces = (men i) .pieces;
@@ -64,6 +64,7 @@ module _ (p : Position) (r : ChessRetraction) (w : Way) (c : Color) {x : ℕ} (h
     white = eu i;
     black = ev i;
     passant = ef i;
+    terms = (men i) .terms;
   }
     where
       taken : manOf y ≡ numbered (opp c) (r .uncaptured)

@@ -51,4 +51,5 @@ viewOf p combined pinned checkers = record {
   pinned = pinned;
   checkers = checkers;
   passant = p .passant;
+  edition = p .terms .edition;
 }

@@ -66,6 +66,8 @@ pub fn look(p: Position, combined: u64, pinned: u64, checkers: u64) -> View
     let colors = p.colors;
     let turn = p.turn;
     let passant = p.passant;
+    let terms = p.terms;
+    let edition = terms.edition;
     let color = geometry::other(turn);
     let short = laws::inner::castling::has_right(p, color, Side::Short);
     let long = laws::inner::castling::has_right(p, color, Side::Long);
@@ -88,5 +90,6 @@ pub fn look(p: Position, combined: u64, pinned: u64, checkers: u64) -> View
         pinned: pinned,
         checkers: checkers,
         passant: passant,
+        edition: edition,
     }
 }

@@ -1,5 +1,6 @@
 // What the lists of piece_type.rs read of a board, taken once: the `let`s that open each `legals`.
 pub use laws::Color;
+pub use laws::Edition;
 pub use laws::EnPassantFlag;
 pub use laws::Position;
 
@@ -25,5 +26,7 @@ pub struct View {
     pub oppking: u8,
     pub pinned: u64,
     pub checkers: u64,
+    // the state, and the edition that a dash is read in
     pub passant: EnPassantFlag,
+    pub edition: Edition,
 }

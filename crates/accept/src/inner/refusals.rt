@@ -79,23 +79,21 @@ fn stepped_twice(p: Position, color: Color, sq: u8) -> bool
 // A named square is refused.
 fn bad_square(p: Position, sq: u8) -> bool
     requires { ⌜ Clean (p .pieces) (p .colors) ⌝ }
-    ensures { λ r. ⌜ r ≡ not (stateOk (menIn p) (p .turn) (Some sq)) ⌝ }
+    ensures { λ r. ⌜ r ≡ not (stateOk (p .terms .edition) (menIn p) (p .turn) (Some sq)) ⌝ }
 {
     if sq > 63 {
         return true;
     }
-    let pieces = p.pieces;
-    let colors = p.colors;
     let turn = p.turn;
     let stepped = stepped_twice(p, geometry::other(turn), sq);
-    let beside = men::inner::pawn_beside(pieces, colors, turn, sq);
-    !(stepped & beside)
+    let noted = men::inner::is_noted(p, turn, sq);
+    !(stepped & noted)
 }
 
 // 5 PASSANT
 pub fn bad_passant(p: Position) -> bool
     requires { ⌜ Clean (p .pieces) (p .colors) ⌝ }
-    ensures { λ r. ⌜ r ≡ not (stateOk (menIn p) (p .turn) (p .passant)) ⌝ }
+    ensures { λ r. ⌜ r ≡ not (stateOk (p .terms .edition) (menIn p) (p .turn) (p .passant)) ⌝ }
 {
     let state = p.passant;
     match state {

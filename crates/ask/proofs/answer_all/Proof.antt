@@ -1,4 +1,4 @@
--- `ask::answer_all` meets its contract.
+-- `ask::inner::answer_all` meets its contract.
 use Prim.Native.Nat.{_-_}
 use native.Mathlib.Omega.{arith}
 use borrow.Author.Needs.{needs}

@@ -53,7 +53,7 @@ toldBy true = Yes
 toldBy false = No
 
 abbrev pub stateGate : RetractableBoard → EnPassantFlag → Verdict
-stateGate b st = andThen (gateOf b) (unless (stateOk (menOn b) (b .turn) st) Passant Accepted)
+stateGate b st = andThen (gateOf b) (unless (stateOk (b .terms .edition) (menOn b) (b .turn) st) Passant Accepted)
 
 -- the board of an answer, or its refusal: "Checkers and pins of the result equal those worked afresh"
 unfoldable pub boardedOf : Positioned → Boarded

@@ -22,7 +22,7 @@ stopOf s p = stopFrom s (p .at) (p .end - p .at)
 
 -- how many of those bytes the line's buffer still takes
 abbrev pub keptOf : List ℕ → Part → ℕ
-keptOf s p = min (stopOf s p - p .at) (512 - p .len)
+keptOf s p = min (stopOf s p - p .at) (65536 - p .len)
 
 -- the part after the cut: past the newline, if there was one, with the bytes that were kept
 abbrev pub cutOf : List ℕ → Part → Part
@@ -38,11 +38,11 @@ cutOf s p = record {
 abbrev pub lineOf : List ℕ → Part → List ℕ → List ℕ
 lineOf s p l = paste l (p .len) (drop (p .at) s) (keptOf s p)
 
--- unread bytes of a chunk of 65,536, and a line in a buffer of 512
+-- unread bytes of a chunk of 65,536, and a line in a buffer of as many
 pub record Fit (p : Part) : Type 0 where
   pub unread : p .at ≤ p .end
   pub inside : p .end ≤ 65536
-  pub short : p .len ≤ 512
+  pub short : p .len ≤ 65536
 
 -- the cut of a part p of the chunk s; that a chunk has 65,536 bytes no caller could tell otherwise
 pub record Cuts (s l : List ℕ) (p r : Part) (l′ : List ℕ) : Type 0 where

@@ -9,8 +9,9 @@ use Rattle.geometry.specs.declared.Color.{Color}
 use Rattle.geometry.specs.Lines.{files}
 use Rattle.laws.specs.declared.Piece.{Piece}
 use Rattle.laws.specs.declared.Piece.the-variants.{Pawn}
+use Rattle.laws.specs.declared.Edition.{Edition}
 use Rattle.laws.specs.Men.{man, Men, sameMan}
-use Rattle.laws.specs.Acceptance.{beside}
+use Rattle.laws.specs.Acceptance.{beside, noted}
 use Rattle.laws.specs.Boards.{kindsAt, colorsAt}
 
 -- a square on which 1 MEN fails: not as many kinds as colours, or more than one
@@ -27,3 +28,7 @@ nextTo q k = eqb (rank k) (rank q) and eqb (files k q) 1
 
 unfoldable pub besideOf : Men → Color → ℕ → Bool
 besideOf m c q = beside m (man c Pawn) q
+
+-- what the edition asks of a double step to q, c being to move then
+unfoldable pub notedOf : Edition → Men → Color → ℕ → Bool
+notedOf v m c q = noted v m c q

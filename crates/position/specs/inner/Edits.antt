@@ -12,7 +12,7 @@ use Rattle.laws.specs.Boards.{kindSets, colorSets}
 
 -- the same position with the men m: "six sets of squares by kind and two by colour", all else kept
 unfoldable pub withMen : Position → Men → Position
-withMen p m = record { pieces = kindSets m; colors = colorSets m; turn = p .turn; white = p .white; black = p .black; passant = p .passant }
+withMen p m = record { pieces = kindSets m; colors = colorSets m; turn = p .turn; white = p .white; black = p .black; passant = p .passant; terms = p .terms }
 
 -- the set with the square s in or out
 unfoldable pub edit : ℕ → ℕ → Bool → ℕ

@@ -5,6 +5,7 @@ use Rattle.geometry.specs.declared.Color.{Color}
 use Rattle.laws.specs.declared.Side.{Side}
 use Rattle.laws.specs.declared.Way.{Way}
 use Rattle.laws.specs.declared.EnPassantFlag.{EnPassantFlag}
+use Rattle.laws.specs.declared.Edition.{Edition}
 use Rattle.laws.specs.declared.Position.{Position}
 use Rattle.laws.specs.declared.ChessRetraction.{ChessRetraction}
 use Rattle.laws.specs.Men.{Man, Men}
@@ -16,8 +17,8 @@ use Rattle.unmake.specs.inner.Parts.{Fits}
 unfoldable pub afterFor : Way → Color → ℕ → ℕ → Man → Men → Men
 afterFor w c t s x m = after w c t s x m
 
-unfoldable pub stateFor : Men → Man → ℕ → ℕ → EnPassantFlag
-stateFor m x t s = stateAfter m x t s
+unfoldable pub stateFor : Edition → Men → Man → ℕ → ℕ → EnPassantFlag
+stateFor v m x t s = stateAfter v m x t s
 
 unfoldable pub keepsFor : ℕ → ℕ → Color → Side → Bool
 keepsFor t s c d = keeps t s c d

@@ -21,13 +21,13 @@ enum-told : tie.Need-enum-told
 enum-told c = search needs
 
 put-board-requires : tie.Need-put-board-requires
-put-board-requires c κs = (c .before .before .before .before .before .before .before .before .before .between-table .ensures, read-accepted _ _ (c .before .before .before .before .before .before .before .read .ensures) (c .before .before .before .before .before .enum-told .given .1) .0, search needs, search needs)
+put-board-requires c κs = (c .before .before .before .before .before .before .before .before .before .between-table .ensures, read-accepted _ _ _ (c .before .before .before .before .before .before .before .read .ensures) (c .before .before .before .before .before .enum-told .given .1) .0, search needs, search needs)
 
 returns : tie.Need-returns
-returns c = reply-refused _ _ (c .before .before .before .before .before .read .ensures) _ (c .before .before .before .v .given .1) (c .put-refused .ensures)
+returns c = reply-refused _ _ _ (c .before .before .before .before .before .read .ensures) _ (c .before .before .before .v .given .1) (c .put-refused .ensures)
 
 returns-2 : tie.Need-returns-2
-returns-2 c = reply-accepted _ _ (c .before .before .before .before .before .before .before .before .read .ensures) (c .before .before .before .before .before .before .enum-told .given .1) (c .put-board .ensures)
+returns-2 c = reply-accepted _ _ _ (c .before .before .before .before .before .before .before .before .read .ensures) (c .before .before .before .before .before .before .enum-told .given .1) (c .put-board .ensures)
 
 pub reply-spec : {M : Type 1} → statement M
 reply-spec =

@@ -36,7 +36,7 @@ noneFor None = true
 -- what is asked of the earlier position e beside 9 to 12 and 2 to 5
 unfoldable pub earlierFor : Pos → ChessRetraction → EnPassantFlag → Bool
 earlierFor e r today =
-    countsFor e and agreesFor today (stateFor (e .men) (e .men (r .target)) (r .target) (r .source))
+    countsFor e and agreesFor today (stateFor (e .terms .edition) (e .men) (e .men (r .target)) (r .target) (r .source))
     and safeFor (e .men) (wayFor (e .men (r .target)) (r .target) (r .source) (r .uncaptured)) (e .turn) and quiet (e .men) (e .turn)
 
 unfoldable pub strictFor : Pos → ChessRetraction → Bool

@@ -9,7 +9,9 @@ use Rattle.geometry.specs.declared.Color.the-variants.{White, Black}
 use Rattle.laws.specs.declared.CastleRights.{CastleRights}
 use Rattle.laws.specs.declared.CastleRights.the-variants.{NoRights, KingSide, QueenSide, Both}
 use Rattle.laws.specs.declared.EnPassantFlag.{EnPassantFlag}
+use Rattle.laws.specs.declared.Edition.{Edition}
 use Rattle.laws.specs.declared.EnPassantFlag.the-variants.{Any, Some, None}
+use Rattle.laws.specs.Positions.{termsOf}
 use Rattle.laws.specs.Boards.{kindSets, colorSets}
 use Rattle.position.specs.Answers.{noPosition}
 use Rattle.men_field.specs.inner.Letters.{numberByLetter, widthOf, menByNumbers}
@@ -66,8 +68,8 @@ sideOf n = cond (eqb n 0) NoRights (cond (eqb n 1) KingSide (cond (eqb n 2) Quee
 abbrev pub flagOf : ℕ → EnPassantFlag
 flagOf n = cond (eqb n 64) None (cond (eqb n 65) Any (Some (n % 64)))
 
-abbrev pub rawOf : Scan → Raw
-rawOf s =
+abbrev pub rawOf : Edition → Scan → Raw
+rawOf v s =
     record {
       form = InForm;
       position = record {
@@ -77,6 +79,7 @@ rawOf s =
         white = sideOf (s .rights % 4);
         black = sideOf (s .rights / 4);
         passant = flagOf (s .square);
+        terms = termsOf v;
       };
     }
 

@@ -9,7 +9,7 @@ other-requires c κs = search needs
 
 returns : tie.Need-returns
 unfolding openedOf
-returns c = rw (c .before .before .other .ensures)
+returns c = rw (c .before .before .before .other .ensures)
 
 pub opened-spec : {M : Type 1} → statement M
 opened-spec = tie.close (tie.spec other-requires returns)

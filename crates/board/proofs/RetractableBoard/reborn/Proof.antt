@@ -19,7 +19,7 @@ xor-requires c κs = search needs
 
 returns : tie.Need-returns
 unfolding rebornOf passantStored
-returns c = c .xor .ensures ∙ rw (c .before .bit .ensures, c .before .before .before .before .ubackward .ensures .0, sym (c .before .before .before .before .before .before .is-passant-uncapture .ensures) ∙ c .before .before .before .before .before .if1 .taken)
+returns c = c .xor .ensures ∙ rw (c .before .bit .ensures, c .before .before .before .before .before .ubackward .ensures .0, sym (c .before .before .before .before .before .before .before .is-passant-uncapture .ensures) ∙ c .before .before .before .before .before .before .if1 .taken)
 
 returns-2 : tie.Need-returns-2
 unfolding rebornOf

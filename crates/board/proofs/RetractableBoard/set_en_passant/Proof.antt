@@ -17,7 +17,7 @@ board-by-requires : tie.Need-board-by-requires
 board-by-requires c κs = search needs
 
 returns : tie.Need-returns
-returns c = let b = c .before .before .before .before .before .before .args .self in let st = c .before .before .before .before .before .before .args .passant in rw (c .board-by .ensures, c .before .before .before .state-gate .ensures) (boards-by (stateGate b st) (stateTests b st) (withPassant b st) (state-number b st))
+returns c = let b = c .before .before .before .before .before .before .before .args .self in let st = c .before .before .before .before .before .before .before .args .passant in rw (c .board-by .ensures, c .before .before .before .before .state-gate .ensures) (boards-by (stateGate b st) (stateTests b st) (withPassant b st) (state-number b st))
 
 pub set-en-passant-spec : {M : Type 1} → statement M
 set-en-passant-spec =

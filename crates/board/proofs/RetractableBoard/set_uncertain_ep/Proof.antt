@@ -20,7 +20,7 @@ board-by-requires : tie.Need-board-by-requires
 board-by-requires c κs = search needs
 
 returns : tie.Need-returns
-returns c = let b = c .before .before .before .before .before .before .before .args .self in rw (c .board-by .ensures, c .before .before .before .before .gate .ensures, c .before .before .before .uncertain-of .ensures) (boards-by (gateOf b) (boardTests b) (withPassant b (uncertain (b .passant))) (gate-number b))
+returns c = let b = c .before .before .before .before .before .before .before .before .args .self in rw (c .board-by .ensures, c .before .before .before .before .before .gate .ensures, c .before .before .before .before .uncertain-of .ensures) (boards-by (gateOf b) (boardTests b) (withPassant b (uncertain (b .passant))) (gate-number b))
 
 pub set-uncertain-ep-spec : {M : Type 1} → statement M
 set-uncertain-ep-spec =

@@ -4,6 +4,15 @@ use borrow.Author.Needs.{needs}
 use Rattle.place.proofs.inner.board_read.Statement.{statement}
 use Rattle.place.proofs.inner.board_read.Tie as tie
 
+array-read-edition-read : tie.Need-array-read-edition-read
+array-read-edition-read c = search needs
+
+edition-read-requires : tie.Need-edition-read-requires
+edition-read-requires c κs = search needs
+
+terms-of-requires : tie.Need-terms-of-requires
+terms-of-requires c κs = search needs
+
 array-read-color-read : tie.Need-array-read-color-read
 array-read-color-read c = search needs
 
@@ -28,47 +37,50 @@ array-read-state-read c = search needs
 state-read-requires : tie.Need-state-read-requires
 state-read-requires c κs = search needs
 
-array-read-t9 : tie.Need-array-read-t9
-array-read-t9 c = search needs
+array-read-t11 : tie.Need-array-read-t11
+array-read-t11 c = search needs
 
-array-read-t20 : tie.Need-array-read-t20
-array-read-t20 c = search needs
+array-read-t24 : tie.Need-array-read-t24
+array-read-t24 c = search needs
 
-array-read-t23 : tie.Need-array-read-t23
-array-read-t23 c = search needs
+array-read-t27 : tie.Need-array-read-t27
+array-read-t27 c = search needs
 
-array-read-t26 : tie.Need-array-read-t26
-array-read-t26 c = search needs
+array-read-t30 : tie.Need-array-read-t30
+array-read-t30 c = search needs
 
-array-read-t29 : tie.Need-array-read-t29
-array-read-t29 c = search needs
-
-array-read-t32 : tie.Need-array-read-t32
-array-read-t32 c = search needs
+array-read-t33 : tie.Need-array-read-t33
+array-read-t33 c = search needs
 
 array-read-t36 : tie.Need-array-read-t36
 array-read-t36 c = search needs
 
-array-read-t39 : tie.Need-array-read-t39
-array-read-t39 c = search needs
+array-read-t40 : tie.Need-array-read-t40
+array-read-t40 c = search needs
 
 array-read-t43 : tie.Need-array-read-t43
 array-read-t43 c = search needs
 
-array-read-t46 : tie.Need-array-read-t46
-array-read-t46 c = search needs
+array-read-t47 : tie.Need-array-read-t47
+array-read-t47 c = search needs
 
-array-read-t49 : tie.Need-array-read-t49
-array-read-t49 c = search needs
+array-read-t50 : tie.Need-array-read-t50
+array-read-t50 c = search needs
+
+array-read-t53 : tie.Need-array-read-t53
+array-read-t53 c = search needs
 
 returns : tie.Need-returns
 unfolding boardRead
-returns c = rw (c .before .before .before .color-read .ensures, c .before .before .rights-read .ensures, c .before .rights-read2 .ensures, c .state-read .ensures)
+returns c = rw (c .before .before .before .before .terms-of .ensures, c .before .before .before .before .before .edition-read .ensures, c .before .before .before .color-read .ensures, c .before .before .rights-read .ensures, c .before .rights-read2 .ensures, c .state-read .ensures)
 
 pub board-read-spec : {M : Type 1} → statement M
 board-read-spec =
     tie.close
     (tie.spec
+    array-read-edition-read
+    edition-read-requires
+    terms-of-requires
     array-read-color-read
     color-read-requires
     array-read-rights-read
@@ -77,15 +89,15 @@ board-read-spec =
     rights-read-requires-2
     array-read-state-read
     state-read-requires
-    array-read-t9
-    array-read-t20
-    array-read-t23
-    array-read-t26
-    array-read-t29
-    array-read-t32
+    array-read-t11
+    array-read-t24
+    array-read-t27
+    array-read-t30
+    array-read-t33
     array-read-t36
-    array-read-t39
+    array-read-t40
     array-read-t43
-    array-read-t46
-    array-read-t49
+    array-read-t47
+    array-read-t50
+    array-read-t53
     returns)

@@ -4,6 +4,9 @@ use borrow.Author.Needs.{needs}
 use Rattle.place.proofs.inner.words_of.Statement.{statement}
 use Rattle.place.proofs.inner.words_of.Tie as tie
 
+mark-word-requires : tie.Need-mark-word-requires
+mark-word-requires c κs = search needs
+
 color-word-requires : tie.Need-color-word-requires
 color-word-requires c κs = search needs
 
@@ -15,9 +18,6 @@ rights-word-requires-2 c κs = search needs
 
 state-word-requires : tie.Need-state-word-requires
 state-word-requires c κs = search needs
-
-array-read-t14 : tie.Need-array-read-t14
-array-read-t14 c = search needs
 
 array-read-t17 : tie.Need-array-read-t17
 array-read-t17 c = search needs
@@ -40,19 +40,22 @@ array-read-t32 c = search needs
 array-read-t35 : tie.Need-array-read-t35
 array-read-t35 c = search needs
 
+array-read-t38 : tie.Need-array-read-t38
+array-read-t38 c = search needs
+
 returns : tie.Need-returns
 unfolding wordsOf
-returns c = rw (c .before .before .before .color-word .ensures, c .before .before .rights-word .ensures, c .before .rights-word2 .ensures, c .state-word .ensures)
+returns c = rw (c .before .before .before .before .mark-word .ensures, c .before .before .before .color-word .ensures, c .before .before .rights-word .ensures, c .before .rights-word2 .ensures, c .state-word .ensures)
 
 pub words-of-spec : {M : Type 1} → statement M
 words-of-spec =
     tie.close
     (tie.spec
+    mark-word-requires
     color-word-requires
     rights-word-requires
     rights-word-requires-2
     state-word-requires
-    array-read-t14
     array-read-t17
     array-read-t20
     array-read-t23
@@ -60,4 +63,5 @@ words-of-spec =
     array-read-t29
     array-read-t32
     array-read-t35
+    array-read-t38
     returns)

@@ -29,7 +29,7 @@ other-requires : tie.Need-other-requires
 other-requires c κs = search needs
 
 returns : tie.Need-returns
-returns c = forward-is (c .before .before .before .before .before .before .before .before .before .before .args .p) (c .before .before .before .before .before .before .before .before .before .before .args .r) (c .before .before .before .before .before .before .before .before .before .before .args .k) (c .before .before .before .before .before .before .before .before .before .before .pre) (c .before .before .before .before .before .before .before .before .before .man-at .ensures .0) (c .before .before .before .before .before .before .before .before .way-of .ensures) (c .before .before .before .before .before .before .before .arrives .result) (c .before .before .before .before .before .before .before .arrives .ensures .0) (c .before .before .before .before .before .before .after .ensures) (c .before .before .other .ensures) (c .before .before .before .before .kept-rights .ensures) (c .before .before .before .kept-rights2 .ensures) (c .before .before .before .before .before .state-after .ensures)
+returns c = forward-is (c .before .before .before .before .before .before .before .before .before .before .before .args .p) (c .before .before .before .before .before .before .before .before .before .before .before .args .r) (c .before .before .before .before .before .before .before .before .before .before .before .args .k) (c .before .before .before .before .before .before .before .before .before .before .before .pre) (c .before .before .before .before .before .before .before .before .before .before .man-at .ensures .0) (c .before .before .before .before .before .before .before .before .before .way-of .ensures) (c .before .before .before .before .before .before .before .before .arrives .result) (c .before .before .before .before .before .before .before .before .arrives .ensures .0) (c .before .before .before .before .before .before .before .after .ensures) (c .before .before .before .other .ensures) (c .before .before .before .before .before .kept-rights .ensures) (c .before .before .before .before .kept-rights2 .ensures) (c .before .before .before .before .before .before .state-after .ensures)
 
 pub forward-spec : {M : Type 1} → statement M
 forward-spec =

@@ -23,17 +23,17 @@ add-double c = search needs
 add-double-2 : tie.Need-add-double-2
 add-double-2 c = search needs
 
-pawn-beside-requires : tie.Need-pawn-beside-requires
-pawn-beside-requires c κs = search needs
+is-noted-requires : tie.Need-is-noted-requires
+is-noted-requires c κs = search needs
 
 is-pawn-requires : tie.Need-is-pawn-requires
 is-pawn-requires c κs = search needs
 
 returns : tie.Need-returns
-returns c = state-is (menIn (c .before .before .before .before .before .before .before .args .p)) (c .before .before .before .before .before .before .before .args .x) (c .before .before .before .before .before .before .before .args .t) (c .before .before .before .before .before .before .before .args .s) {a = c .before .is-pawn .result} {d = (eqb (c .before .before .before .before .before .before .before .args .t / 8) (c .before .before .before .before .before .before .before .args .s / 8 + 2) || eqb (c .before .before .before .before .before .before .before .args .s / 8) (c .before .before .before .before .before .before .before .args .t / 8 + 2))} {g = c .before .before .pawn-beside .result} {z = true} {e = c .before .before .before .other .result} (c .before .before .before .before .before .before .before .pre .2) (sym (c .if1 .taken)) (c .before .is-pawn .ensures) refl (c .before .before .pawn-beside .ensures) (c .before .before .before .other .ensures ∙ ap (λ (q : Color). opp q) (c .before .before .before .before .color-of .ensures))
+returns c = state-is (c .before .before .before .before .before .args .p .terms .edition) (menIn (c .before .before .before .before .before .args .p)) (c .before .before .before .before .before .args .x) (c .before .before .before .before .before .args .t) (c .before .before .before .before .before .args .s) {a = c .before .is-pawn .result} {d = (eqb (c .before .before .before .before .before .args .t / 8) (c .before .before .before .before .before .args .s / 8 + 2) || eqb (c .before .before .before .before .before .args .s / 8) (c .before .before .before .before .before .args .t / 8 + 2))} {g = c .before .before .is-noted .result} {z = true} {e = c .before .before .before .other .result} (c .before .before .before .before .before .pre .2) (sym (c .if1 .taken)) (c .before .is-pawn .ensures) refl (c .before .before .is-noted .ensures) (c .before .before .before .other .ensures ∙ ap (λ (q : Color). opp q) (c .before .before .before .before .color-of .ensures))
 
 returns-2 : tie.Need-returns-2
-returns-2 c = state-is (menIn (c .before .before .before .before .before .before .before .args .p)) (c .before .before .before .before .before .before .before .args .x) (c .before .before .before .before .before .before .before .args .t) (c .before .before .before .before .before .before .before .args .s) {a = c .before .is-pawn .result} {d = (eqb (c .before .before .before .before .before .before .before .args .t / 8) (c .before .before .before .before .before .before .before .args .s / 8 + 2) || eqb (c .before .before .before .before .before .before .before .args .s / 8) (c .before .before .before .before .before .before .before .args .t / 8 + 2))} {g = c .before .before .pawn-beside .result} {z = false} {e = c .before .before .before .other .result} (c .before .before .before .before .before .before .before .pre .2) (sym (c .if1 .left)) (c .before .is-pawn .ensures) refl (c .before .before .pawn-beside .ensures) (c .before .before .before .other .ensures ∙ ap (λ (q : Color). opp q) (c .before .before .before .before .color-of .ensures))
+returns-2 c = state-is (c .before .before .before .before .before .args .p .terms .edition) (menIn (c .before .before .before .before .before .args .p)) (c .before .before .before .before .before .args .x) (c .before .before .before .before .before .args .t) (c .before .before .before .before .before .args .s) {a = c .before .is-pawn .result} {d = (eqb (c .before .before .before .before .before .args .t / 8) (c .before .before .before .before .before .args .s / 8 + 2) || eqb (c .before .before .before .before .before .args .s / 8) (c .before .before .before .before .before .args .t / 8 + 2))} {g = c .before .before .is-noted .result} {z = false} {e = c .before .before .before .other .result} (c .before .before .before .before .before .pre .2) (sym (c .if1 .left)) (c .before .is-pawn .ensures) refl (c .before .before .is-noted .ensures) (c .before .before .before .other .ensures ∙ ap (λ (q : Color). opp q) (c .before .before .before .before .color-of .ensures))
 
 pub state-after-spec : {M : Type 1} → statement M
 state-after-spec =
@@ -43,7 +43,7 @@ state-after-spec =
     other-requires
     add-double
     add-double-2
-    pawn-beside-requires
+    is-noted-requires
     is-pawn-requires
     returns
     returns-2)

@@ -18,8 +18,11 @@ side-of-requires-2 c κs = search needs
 flag-of-requires : tie.Need-flag-of-requires
 flag-of-requires c κs = search needs
 
+terms-of-requires : tie.Need-terms-of-requires
+terms-of-requires c κs = search needs
+
 returns : tie.Need-returns
-returns c = simp (c .before .before .before .before .before .before .before .before .sets-of .ensures .0, c .before .before .before .before .before .before .before .before .sets-of .ensures .1, c .before .before .before .before .before .turn-of .ensures, c .before .before .before .side-of .ensures, c .before .side-of2 .ensures, c .flag-of .ensures)
+returns c = simp (c .before .before .before .before .before .before .before .before .before .sets-of .ensures .0, c .before .before .before .before .before .before .before .before .before .sets-of .ensures .1, c .before .before .before .before .before .before .turn-of .ensures, c .before .before .before .before .side-of .ensures, c .before .before .side-of2 .ensures, c .before .flag-of .ensures, c .terms-of .ensures)
 
 pub raw-of-spec : {M : Type 1} → statement M
 raw-of-spec =
@@ -30,4 +33,5 @@ raw-of-spec =
     side-of-requires
     side-of-requires-2
     flag-of-requires
+    terms-of-requires
     returns)

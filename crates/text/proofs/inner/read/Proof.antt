@@ -23,10 +23,10 @@ board-from-requires : tie.Need-board-from-requires
 board-from-requires c κs = search needs
 
 returns : tie.Need-returns
-returns c = read-out _ _ _ (c .before .before .before .before .read-raw .ensures) (c .before .before .enum-told .given .1) (c .board-by .ensures)
+returns c = read-out _ _ _ _ (c .before .before .before .before .read-raw .ensures) (c .before .before .enum-told .given .1) (c .board-by .ensures)
 
 returns-2 : tie.Need-returns-2
-returns-2 c = read-in _ _ _ (c .before .before .before .before .read-raw .ensures) (c .before .before .enum-told2 .given .1) (c .board-from .ensures)
+returns-2 c = read-in _ _ _ _ (c .before .before .before .before .read-raw .ensures) (c .before .before .enum-told2 .given .1) (c .board-from .ensures)
 
 pub read-spec : {M : Type 1} → statement M
 read-spec =

@@ -19,13 +19,13 @@ same-requires : tie.Need-same-requires
 same-requires c κs = search needs
 
 returns : tie.Need-returns
-returns c = in-form _ _ _ _ (c .before .before .before .before .raw-of .ensures ∙ ap rawOf (c .before .before .before .before .before .walk .ensures)) (c .before .before .line-of .ensures .0 .text) (c .before .same .ensures) (c .if1 .taken)
+returns c = in-form _ _ _ _ _ (c .before .before .before .before .raw-of .ensures ∙ ap (rawOf _) (c .before .before .before .before .before .walk .ensures)) (c .before .before .line-of .ensures .0 .text) (c .before .same .ensures) (c .if1 .taken)
 
 no-raw-requires : tie.Need-no-raw-requires
 no-raw-requires c κs = search needs
 
 returns-2 : tie.Need-returns-2
-returns-2 c = no-answer _ _ (c .no-raw .ensures) (out-of-form _ _ _ _ (c .before .before .before .before .before .raw-of .ensures ∙ ap rawOf (c .before .before .before .before .before .before .walk .ensures)) (c .before .before .before .line-of .ensures .0 .text) (c .before .before .same .ensures) (c .before .if1 .left))
+returns-2 c = no-answer _ _ _ (c .no-raw .ensures) (out-of-form _ _ _ _ _ (c .before .before .before .before .before .raw-of .ensures ∙ ap (rawOf _) (c .before .before .before .before .before .before .walk .ensures)) (c .before .before .before .line-of .ensures .0 .text) (c .before .before .same .ensures) (c .before .if1 .left))
 
 pub read-raw-spec : {M : Type 1} → statement M
 read-raw-spec =

@@ -29,8 +29,8 @@ among-requires-2 c κs = search needs
 castling-rooks-requires : tie.Need-castling-rooks-requires
 castling-rooks-requires c κs = search needs
 
-array-read-t23 : tie.Need-array-read-t23
-array-read-t23 c = search needs
+array-read-t25 : tie.Need-array-read-t25
+array-read-t25 c = search needs
 
 array-read-to-square : tie.Need-array-read-to-square
 array-read-to-square c = search needs
@@ -60,7 +60,7 @@ look-spec =
     among-requires
     among-requires-2
     castling-rooks-requires
-    array-read-t23
+    array-read-t25
     array-read-to-square
     to-square-requires
     array-read-to-square-2

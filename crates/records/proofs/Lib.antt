@@ -1,0 +1,10 @@
+pub mod Decimals
+pub mod Splits
+pub mod Pawns
+pub mod Giving
+pub mod Parts
+pub mod Answering
+pub mod Writing
+pub mod Saying
+pub mod RoundTrip
+pub mod Words

@@ -1,0 +1,4 @@
+pub mod Form
+pub mod Grammar
+pub mod Entries
+pub mod inner

@@ -1,0 +1,65 @@
+-- What the reader makes of its parts, by which the code comes to what `Reads` says.
+use mathlib.Core.Bool.{cond}
+use Prim.Native.Nat.{ℕ, _+_, _-_, _/_}
+use lib.Dec.{eqb, ltb}
+use Rattle.laws.specs.declared.EnPassantFlag.{EnPassantFlag}
+use Rattle.laws.specs.declared.EnPassantFlag.the-variants.{Any, Some, None}
+use Rattle.laws.specs.declared.Position.{Position}
+use Rattle.refusal.specs.declared.Refusal.the-variants.{Text}
+use Rattle.refusal.specs.declared.Verdict.{Verdict}
+use Rattle.refusal.specs.declared.Verdict.the-variants.{Accepted, Refused}
+use Rattle.board.specs.declared.RetractableBoard.{RetractableBoard}
+use Rattle.board.specs.Gate.{noBoard}
+use Rattle.board.specs.inner.Gates.{newOf}
+use Rattle.text.specs.declared.Form.{Form}
+use Rattle.text.specs.declared.Form.the-variants.{InForm, OutOfForm}
+use Rattle.text.specs.declared.Raw.{Raw}
+use Rattle.records.specs.declared.Why.{Why}
+use Rattle.records.specs.declared.Why.the-variants.{Base, Counter}
+use Rattle.records.specs.declared.Outcome.the-variants.{Taken, Refused as notTaken}
+use Rattle.records.specs.declared.Recorded.{Recorded}
+use Rattle.records.specs.Form.{passedState}
+use Rattle.records.specs.Entries.{inRange, isKnown}
+
+-- a position with another state
+abbrev pub withState : Position → EnPassantFlag → Position
+withState p e = record { pieces = p .pieces; colors = p .colors; turn = p .turn; white = p .white; black = p .black; passant = e; terms = p .terms }
+
+-- the square passed over for the pawn's own
+abbrev pub passedFields : Position → Position
+passedFields p = withState p (passedState (p .passant))
+
+-- and back: the pawn that passed over q, unknown where none did
+abbrev pub pawnOf : ℕ → EnPassantFlag
+pawnOf q = cond (eqb (q / 8) 2) (Some (q + 8)) (cond (eqb (q / 8) 5) (Some (q - 8)) Any)
+
+abbrev pub pawnState : EnPassantFlag → EnPassantFlag
+pawnState Any = Any
+pawnState (Some q) = pawnOf q
+pawnState None = None
+
+abbrev pub noRecord : Why → Recorded
+noRecord w = record { outcome = notTaken w; board = noBoard; half = 0; full = 0 }
+
+abbrev pub taken : RetractableBoard → ℕ → ℕ → Recorded
+taken b h n = record { outcome = Taken; board = b; half = h; full = n }
+
+abbrev pub recordedBy : Verdict → RetractableBoard → ℕ → ℕ → Recorded
+recordedBy Accepted b h n = taken b h n
+recordedBy (Refused r) b h n = noRecord (Base r)
+
+-- 15, then 1 to 6
+abbrev pub recordSaid : Position → ℕ → ℕ → Recorded
+recordSaid f h n = cond (inRange h n) (recordedBy (newOf f .verdict) (newOf f .board) h n) (noRecord Counter)
+
+-- 14 first, where the state is unknown
+abbrev pub knownSaid : Position → ℕ → ℕ → Recorded
+knownSaid f h n = cond (isKnown (f .passant)) (recordSaid f h n) (noRecord (Base Text))
+
+abbrev pub answerBy : Form → Position → ℕ → ℕ → Recorded
+answerBy OutOfForm p h n = noRecord (Base Text)
+answerBy InForm p h n = knownSaid (withState p (pawnState (p .passant))) h n
+
+-- and before that, where the form or a counter is not one
+abbrev pub answerOf : Raw → ℕ → ℕ → Recorded
+answerOf raw h n = cond (ltb 10000 h) (noRecord (Base Text)) (cond (ltb 10000 n) (noRecord (Base Text)) (answerBy (raw .form) (raw .position) h n))
