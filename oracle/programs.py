@@ -17,7 +17,7 @@ def build_oracle():
 
 
 def newest_source():
-    parts = [ROOT + '/oracle/' + p for p in ('brute', 'rust', 'gen', 'judge', 'lastmoves', 'screen', 'scripts.py', 'table.py')]
+    parts = [ROOT + '/oracle/' + p for p in ('brute', 'rust', 'gen', 'judge', 'lastmoves', 'pgn', 'screen', 'scripts.py', 'table.py', 'editions.py', 'records.py')]
     files = [os.path.join(d, f) for p in parts for d, _, names in os.walk(p) for f in names]
     return max(map(os.path.getmtime, files + parts))
 
