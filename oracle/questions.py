@@ -194,7 +194,8 @@ def bent_worked(rng, worked):
 
 
 GOOD = [b'4k3/8/8/8/3pP3/8/8/4K3 b - e4', b'4k3/8/8/3pP3/8/8/8/4K3 w - d5', b'r3k2r/8/8/8/8/8/8/R3K2R w KQkq -', b'r3k2r/8/8/8/8/8/8/R3K2R b Kq ?',
-        b'8/4k3/3P4/8/8/8/8/4R2K b - -', b'4k3/8/8/8/4n3/8/8/4RK2 b - ?', b'4k3/4r3/8/8/4B3/8/8/4K3 w - -', b'8/8/8/8/8/3n4/8/4K2k w - ?']
+        b'8/4k3/3P4/8/8/8/8/4R2K b - -', b'4k3/8/8/8/4n3/8/8/4RK2 b - ?', b'4k3/4r3/8/8/4B3/8/8/4K3 w - -', b'8/8/8/8/8/3n4/8/4K2k w - ?',
+        b'4k3/8/8/8/1P2P3/8/8/4K3 b - ?', b'4k3/8/8/p5p1/8/8/8/4K3 w - -']
 LOW = [b'8/8/8/8/8/8/8/K1k5 w - ?', b'8/8/8/8/8/8/8/K1k4R b - -', b'8/8/8/8/8/8/1P6/K2k3R b - -', b'8/8/8/8/8/8/r6R/K2k4 w - ?', b'8/8/8/8/8/8/8/R3K1k1 w Q -']
 LARGE = [2 ** 8, 2 ** 32, 2 ** 60, 2 ** 63, table.HUGE]
 
@@ -203,7 +204,7 @@ def desks(rng, boards):
     """A line a board: what two desks and a stranger do with boards of any kind, among them always some that are accepted."""
     texts = [b.text for b in boards if len(b.text) < 90 and b.text[:1] != b'=']
     raw = [b'=' + fields for fields in gate(rng, boards)]
-    known = table.read(lambda mode, lines: ask([BRUTE, mode], lines), set(texts + raw + GOOD + LOW))
+    known = table.read(lambda mode, edition, lines: ask([BRUTE, mode, edition], lines), set(texts + raw + GOOD + LOW))
     return [Study(rng, known, few(rng, [texts, texts, raw, GOOD, texts, raw, GOOD])).line() for _ in boards]
 
 
@@ -313,7 +314,7 @@ class Study:
             return self.make(b'w', self.rng.choice([0, 1, 2, self.rng.randrange(self.size + 2), table.HUGE]), self.rng.choice([0, 1] + LARGE))
         desk, number, start = self.rng.choice(used if used and self.rng.random() < .9 else places)
         here = self.words[start:start + 16]
-        there = [1] + self.known[self.rng.choice(LOW)][1] if self.rng.random() < .1 else bent_place(self.rng, here)
+        there = self.known[self.rng.choice(LOW)][1] if self.rng.random() < .1 else bent_place(self.rng, here)
         for i in range(16):
             if here[i] != there[i]:
                 self.make(b'w', start + i, there[i])
@@ -326,8 +327,9 @@ def table_size(rng):
 
 
 def bent_place(rng, words):
-    """The words of a place with one of them changed, or a king that comes or goes, or a pawn on the first or the last rank."""
-    words, way = list(words), rng.randrange(10)
+    """The words of a place with one of them changed, or a king that comes or goes, or a pawn on the first or the last rank, or a pawn named in either
+    edition that may have stepped two squares."""
+    words, way = list(words), rng.randrange(11)
     if way == 0:
         words[0] = rng.choice([0, 2] + LARGE)
     elif way == 1:
@@ -342,6 +344,9 @@ def bent_place(rng, words):
         words[rng.randrange(1, 9)] ^= 1 << rng.randrange(64)
     elif way == 7:
         words[rng.choice([9, 13, 14])] ^= 1 << rng.randrange(64)
+    elif way == 8:
+        fourth, own = (range(24, 32), words[7]) if words[10] else (range(32, 40), words[8])
+        words[0], words[15] = rng.choice([1, 2, 2]), 2 + rng.choice([s for s in fourth if words[1] & own & 1 << s] or fourth)
     else:
         kind = rng.choice([1, 6])
         squares = [s for s in range(64) if words[6] >> s & 1] if kind == 6 else [s for s in range(64) if s // 8 in (0, 7) and not words[9] >> s & 1]

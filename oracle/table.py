@@ -1,8 +1,10 @@
 """The study table of document 02, item 9, in plain Python: two desks that keep boards in one list of words. Whether a board is accepted, and its
-text, `brute` says; `answers` asks it once for all the boards of all questions, and once for all that was fetched."""
+text, `brute` says; `answers` asks it once for all the boards of all questions, which are of edition A, and once in each edition for all that was
+fetched."""
 
 DESK, QUOTA, ABSENT, TEXT = 20, 21, 22, 14
 HEAD, PLACE = 2, 16  # the words of the quotas, and of a place
+MARKS = {'A': 1, 'B': 2}  # a place that holds a board of this edition; 0 is free
 HUGE = 2 ** 64 - 1
 
 
@@ -13,7 +15,7 @@ class Refused(Exception):
 
 
 class Table:
-    """A board is its refusal, 0 for none, and its fifteen words."""
+    """A board is its refusal, 0 for none, and its sixteen words."""
     def __init__(self, words):
         self.words = words
 
@@ -32,13 +34,13 @@ class Table:
         if not free:
             raise Refused(QUOTA)
         start = starts[free[0]]
-        self.words[start:start + PLACE] = [1] + words
+        self.words[start:start + PLACE] = words
         return free[0]
 
     def fetch(self, desk, number):
-        """The fifteen words found there: 1 to 7 of them are still to be tested."""
+        """The sixteen words found there: 1 to 7 of them are still to be tested."""
         start = self.held(desk, number)
-        return tuple(self.words[start + 1:start + PLACE])
+        return tuple(self.words[start:start + PLACE])
 
     def drop(self, desk, number):
         self.words[self.held(desk, number)] = 0
@@ -66,20 +68,25 @@ class Table:
 
 # A board as `brute gate` takes it, in a line: eight sets, turn, rights, state, union, checkers, pins.
 
-def words_of(line):
-    """What a put writes behind the mark."""
+def words_of(line, edition):
+    """What a put writes."""
     fields = line.decode().split(' ')
     men, (turn, rights, state), (union, checkers, pins) = sets(fields[:8]), fields[8:11], sets(fields[11:])
     white, black = [(king in rights) + 2 * (queen in rights) for king, queen in ('KQ', 'kq')]
-    return men + [union, 'wb'.index(turn), white, black, pins, checkers, '?-'.index(state) if state in '?-' else 2 + int(state)]
+    return [MARKS[edition]] + men + [union, 'wb'.index(turn), white, black, pins, checkers, '?-'.index(state) if state in '?-' else 2 + int(state)]
 
 
 def line_of(words):
-    """How any words are read."""
-    *men, union, turn, white, black, pins, checkers, state = words
+    """How any words behind a mark are read."""
+    _, *men, union, turn, white, black, pins, checkers, state = words
     rights = ['', 'K', 'Q', 'KQ'][min(white, 3)] + ['', 'k', 'q', 'kq'][min(black, 3)]
     state = '?-'[state] if state < 2 else str(min(state - 2, 255))
     return ' '.join(['%x' % s for s in men] + ['b' if turn else 'w', rights or '-', state] + ['%x' % s for s in (union, checkers, pins)]).encode()
+
+
+def edition_of(words):
+    """How any mark is read that is not 0."""
+    return 'B' if words[0] == MARKS['B'] else 'A'
 
 
 def sets(fields):
@@ -143,7 +150,7 @@ class Question:
 
 
 def answers(brute, asked):
-    """Of many fields; `brute(mode, lines)` runs it."""
+    """Of many fields; `brute(mode, edition, lines)` runs it."""
     questions = [Question(fields) for fields in asked]
     boards = read(brute, {board for q in questions for board in q.boards})
     said = [list(q.said(boards)) for q in questions]
@@ -151,19 +158,22 @@ def answers(brute, asked):
     return [b'\t'.join(shown.get(answer, answer) for answer in each) for each in said]
 
 
-def read(brute, fields):
-    """Boards by their fields: `=` and a line are tested by 1 to 7, a text by 14 and 1 to 6, and then its last sets are worked out."""
+def read(brute, fields, edition='A'):
+    """Boards of an edition by their fields: `=` and a line are tested by 1 to 7, a text by 14 and 1 to 6, and then its last sets are worked out."""
     raw, texts = [[f for f in fields if f.startswith(b'=') == is_raw] for is_raw in (True, False)]
-    boards = {f: (int(said.split()[0]), words_of(f[1:])) for f, said in zip(raw, brute('gate', [f[1:] for f in raw]))}
-    boards.update((t, (int(said), [])) for t, said in zip(texts, brute('accept', texts)))
+    boards = {f: (int(said.split()[0]), words_of(f[1:], edition)) for f, said in zip(raw, brute('gate', edition, [f[1:] for f in raw]))}
+    boards.update((t, (int(said), [])) for t, said in zip(texts, brute('accept', edition, texts)))
     good = [t for t in texts if boards[t][0] == 0]
     men = [men_of(t) for t in good]
-    boards.update((t, (0, words_of(m + b' ' + worked))) for t, m, worked in zip(good, men, brute('worked', men)))
+    boards.update((t, (0, words_of(m + b' ' + worked, edition))) for t, m, worked in zip(good, men, brute('worked', edition, men)))
     return boards
 
 
 def tested(brute, found):
-    """The answer to a fetch that found these words: the board's text, or by which of 1 to 7 it is refused."""
-    found = list(found)
-    said = [s.split(b' ', 2) for s in brute('gate', [line_of(words) for words in found])]
-    return {words: s[2] if s[0] == b'0' else b'refused ' + s[0] for words, s in zip(found, said)}
+    """The answer to a fetch that found these words: the board's text, or by which of 1 to 7, in its edition, it is refused."""
+    shown = {}
+    for edition in MARKS:
+        of_it = [words for words in found if edition_of(words) == edition]
+        said = [s.split(b' ', 2) for s in brute('gate', edition, [line_of(words) for words in of_it])]
+        shown.update((words, s[2] if s[0] == b'0' else b'refused ' + s[0]) for words, s in zip(of_it, said))
+    return shown
