@@ -156,7 +156,7 @@ fresh-worked q =
     both (both (eq-eqb (unionOf m) (unionOf m) refl) (eq-eqb (checkersOf m (q .turn)) (checkersOf m (q .turn)) refl)) (eq-eqb (pinsOf m (q .turn)) (pinsOf m (q .turn)) refl)
 
 -- the numbers of un-make and of replay are those of the first test that fails
-answer-number : (p : Pos) (r : ChessRetraction) → verdictNumber (unmadeTo p r .verdict) ≡ firstFailing (unmakeTests p r)
+pub answer-number : (p : Pos) (r : ChessRetraction) → verdictNumber (unmadeTo p r .verdict) ≡ firstFailing (unmakeTests p r)
 unfolding unmadeTo steppedTo firstFailing
 answer-number p r = go (sourceFor p r) (targetFor p r) (heldFor p r) (stepFor p r)
   where

@@ -32,7 +32,7 @@ workedOf p = record {
   terms = p .terms;
 }
 
--- "`piece_on` and `is_attacked` test 9 for their square", behind 1 to 7
+-- "`piece_on` and `is_attacked` test 9 for their square", and `attackers` does: behind 1 to 7
 abbrev pub askTests : RetractableBoard → ℕ → List Test
 askTests b sq = boardTests b ++ ((ltb sq 64 else Source) ∷ [])
 

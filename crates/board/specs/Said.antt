@@ -10,6 +10,8 @@ use Rattle.board.specs.declared.RetractableBoard.{RetractableBoard}
 use Rattle.board.specs.declared.Boarded.{Boarded}
 use Rattle.board.specs.declared.PieceOn.{PieceOn}
 use Rattle.board.specs.declared.PieceOn.the-variants.{Nobody, Kind, Refused as notAsked}
+use Rattle.board.specs.declared.Attackers.{Attackers}
+use Rattle.board.specs.declared.Attackers.the-variants.{Set, Refused as notNamed}
 use Rattle.board.specs.declared.Attacked.{Attacked}
 use Rattle.board.specs.declared.Attacked.the-variants.{Yes, No, Refused as notTold}
 use Rattle.board.specs.Gate.{noBoard}
@@ -33,6 +35,11 @@ abbrev pub pieceSays : PieceOn → Said
 pieceSays Nobody = told (0 ∷ [])
 pieceSays (Kind k) = told (kindNumber k ∷ [])
 pieceSays (notAsked r) = refusal r
+
+-- the men's squares as a set
+abbrev pub attackersSays : Attackers → Said
+attackersSays (Set s) = told (s ∷ [])
+attackersSays (notNamed r) = refusal r
 
 -- 1 where the square is attacked, else 0
 abbrev pub attackedSays : Attacked → Said

@@ -11,12 +11,15 @@ use refusal::Refusal;
 use refusal::Verdict;
 ghost use mathlib.Core.Path.{_≡_};
 ghost use mathlib.Core.List.{_++_};
-ghost use Rattle.laws.specs.Attacks.{attacked};
+ghost use Prim.Native.Nat.{_<_};
+ghost use Rattle.laws.specs.Attacks.{attackersOf, attacked};
+ghost use Rattle.laws.specs.Boards.{Clean};
 ghost use Rattle.accept.specs.Verdicts.{rawTests};
 ghost use Rattle.board.specs.Gate.{menOn, posOn, boardTests, positionFrom, noBoard};
-ghost use Rattle.board.specs.Said.{Boards, Tells, pieceSays, attackedSays};
+ghost use Rattle.board.specs.Said.{Boards, Tells, pieceSays, attackersSays, attackedSays};
+ghost use Rattle.board.specs.declared.Attackers.the-variants.{Set};
 ghost use Rattle.board.specs.Answers.{workedOf, askTests, kindOn, stateTests, withPassant, uncertain};
-ghost use Rattle.board.specs.inner.Gates.{kindRead, toldBy};
+ghost use Rattle.board.specs.inner.Gates.{kindRead, toldBy, toldOf};
 ghost use Rattle.board.specs.Moving.{unmakeTests, unmadeOn, replayTests, replayedOn};
 
 mod back; // back.rt: how the board's own sets go back
@@ -49,6 +52,11 @@ pub enum PieceOn {
     Refused(Refusal),
 }
 
+pub enum Attackers {
+    Set(u64),
+    Refused(Refusal),
+}
+
 pub enum Attacked {
     Yes,
     No,
@@ -58,6 +66,12 @@ pub enum Attacked {
 // The kind on a square beside the board that was asked, or a refusal beside the empty board.
 pub struct PieceTold {
     pub answer: PieceOn,
+    pub board: RetractableBoard,
+}
+
+// The men that attack a square, in the same way.
+pub struct AttackersTold {
+    pub answer: Attackers,
     pub board: RetractableBoard,
 }
 
@@ -148,27 +162,39 @@ impl RetractableBoard {
         }
     }
 
-    // Whether a man of a colour attacks a square: refusals 1 to 7, then 9.
-    pub fn is_attacked(mut self, sq: u8, color: Color) -> AttackTold
-        ensures { λ r. ⌜ Tells (askTests self sq) (attackedSays (toldBy (attacked (menOn self) color sq))) self (attackedSays (r .answer)) (r .board) ⌝ }
+    // The men of a colour that attack a square: refusals 1 to 7, then 9.
+    pub fn attackers(mut self, sq: u8, color: Color) -> AttackersTold
+        ensures { λ r. ⌜ Tells (askTests self sq) (attackersSays (Set (attackersOf (menOn self) color sq))) self (attackersSays (r .answer)) (r .board) ⌝ }
     {
         let t = tables::between_table();
         let v = inner::ask_gate(&t, self, sq);
         self = inner::kept(v, self);
         match v {
-            Verdict::Refused(w) => AttackTold {
-                answer: Attacked::Refused(w),
+            Verdict::Refused(w) => AttackersTold {
+                answer: Attackers::Refused(w),
                 board: self,
             },
             Verdict::Accepted => {
-                let pieces = self.pieces;
-                let colors = self.colors;
-                let answer = told(attacks::inner::is_attacked(pieces, colors, sq, color));
-                AttackTold {
-                    answer,
+                let men = attackers_on(self, sq, color);
+                AttackersTold {
+                    answer: Attackers::Set(men),
                     board: self,
                 }
             }
+        }
+    }
+
+    // Whether a man of a colour attacks a square: refusals 1 to 7, then 9.
+    pub fn is_attacked(mut self, sq: u8, color: Color) -> AttackTold
+        ensures { λ r. ⌜ Tells (askTests self sq) (attackedSays (toldBy (attacked (menOn self) color sq))) self (attackedSays (r .answer)) (r .board) ⌝ }
+    {
+        let z = self.attackers(sq, color);
+        self = z.board;
+        let men = z.answer;
+        let answer = told(men);
+        AttackTold {
+            answer,
+            board: self,
         }
     }
 
@@ -231,10 +257,29 @@ fn uncertain_of(passant: EnPassantFlag) -> EnPassantFlag
     }
 }
 
-fn told(yes: bool) -> Attacked
-    ensures { λ r. ⌜ r ≡ toldBy yes ⌝ }
+// Pinned men and the king attack like any other.
+fn attackers_on(b: RetractableBoard, sq: u8, color: Color) -> u64
+    requires { ⌜ Clean (b .pieces) (b .colors) × (sq < 64) ⌝ }
+    ensures { λ r. ⌜ r ≡ attackersOf (menOn b) color sq ⌝ }
 {
-    if yes { Attacked::Yes } else { Attacked::No }
+    let pieces = b.pieces;
+    let colors = b.colors;
+    attacks::inner::attackers(pieces, colors, sq, color)
+}
+
+// Whether there is an attacker.
+fn told(men: Attackers) -> Attacked
+    ensures { λ r. ⌜ r ≡ toldOf men ⌝ }
+{
+    match men {
+        Attackers::Refused(w) => Attacked::Refused(w),
+        Attackers::Set(s) => {
+            if s != 0 {
+                return Attacked::Yes;
+            }
+            Attacked::No
+        }
+    }
 }
 
 // Who stands on a square, as board.rs's `piece_on` reads the sets.

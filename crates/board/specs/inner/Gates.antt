@@ -1,8 +1,8 @@
 -- The verdicts by which the code comes to what the tests say, and what it rests on.
 use mathlib.Core.Path.{_≡_}
-use mathlib.Core.Bool.{Bool, true, false, cond}
+use mathlib.Core.Bool.{Bool, true, false, not, cond}
 use Prim.Native.Nat.{ℕ}
-use lib.Dec.{ltb}
+use lib.Dec.{eqb, ltb}
 use Rattle.squares.specs.Squares.{has}
 use Rattle.laws.specs.declared.EnPassantFlag.{EnPassantFlag}
 use Rattle.laws.specs.declared.Position.{Position}
@@ -22,8 +22,10 @@ use Rattle.board.specs.declared.RetractableBoard.{RetractableBoard}
 use Rattle.board.specs.declared.Boarded.{Boarded}
 use Rattle.board.specs.declared.PieceOn.{PieceOn}
 use Rattle.board.specs.declared.PieceOn.the-variants.{Nobody, Kind}
+use Rattle.board.specs.declared.Attackers.{Attackers}
+use Rattle.board.specs.declared.Attackers.the-variants.{Set, Refused as notNamed}
 use Rattle.board.specs.declared.Attacked.{Attacked}
-use Rattle.board.specs.declared.Attacked.the-variants.{Yes, No}
+use Rattle.board.specs.declared.Attacked.the-variants.{Yes, No, Refused as notTold}
 use Rattle.board.specs.Gate.{menOn, posOn, toLaws, positionOn, staleAfter, gateOf, boardedBy}
 use Rattle.board.specs.Answers.{workedOf}
 use Rattle.board.specs.Moving.{replayedOn}
@@ -51,6 +53,11 @@ kindRead b sq = cond (has (b .combined) sq) (Kind (pieceOn (toLaws b) sq)) Nobod
 abbrev pub toldBy : Bool → Attacked
 toldBy true = Yes
 toldBy false = No
+
+-- whether a set of attackers has one
+abbrev pub toldOf : Attackers → Attacked
+toldOf (Set s) = toldBy (not (eqb s 0))
+toldOf (notNamed r) = notTold r
 
 abbrev pub stateGate : RetractableBoard → EnPassantFlag → Verdict
 stateGate b st = andThen (gateOf b) (unless (stateOk (b .terms .edition) (menOn b) (b .turn) st) Passant Accepted)

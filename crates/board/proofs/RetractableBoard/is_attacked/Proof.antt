@@ -1,62 +1,35 @@
 -- `board::RetractableBoard::is_attacked` meets its contract.
-use mathlib.Core.Path.{_≡_, _∙_, ap, sym, subst}
-use native.Mathlib.Omega.{arith}
-use lib.ListN.{getD, length}
-use mir.Syntax.{w64}
-use mir.Val.{Fits}
+use mathlib.Core.Path.{_∙_, ap}
+use mathlib.Core.Bool.{Bool}
 use borrow.Author.Needs.{needs}
-use borrow.Author.Tests.{ltb-true}
-use Rattle.laws.specs.Attacks.{attacked}
-use Rattle.laws.specs.Boards.{Clean}
-use Rattle.refusal.specs.declared.Verdict.{Verdict}
-use Rattle.refusal.specs.Refusals.{verdictNumber}
-use Rattle.board.specs.declared.RetractableBoard.{RetractableBoard}
+use Rattle.laws.specs.Attacks.{attacksFrom, attackersOf}
+use Rattle.refusal.specs.Said.{behind}
+use Rattle.board.specs.declared.Attackers.the-variants.{Set}
 use Rattle.board.specs.Gate.{menOn}
 use Rattle.board.specs.Said.{attackedSays}
 use Rattle.board.specs.Answers.{askTests}
 use Rattle.board.specs.inner.Gates.{toldBy}
-use Rattle.board.proofs.Saying.{tells-by}
-use Rattle.board.proofs.Passing.{ask-number, ask-accepted, gate-sound}
+use Rattle.squares.proofs.Every.{some-test}
+use Rattle.board.proofs.Saying.{told-behind}
 use Rattle.board.proofs.RetractableBoard.is_attacked.Statement.{statement}
 use Rattle.board.proofs.RetractableBoard.is_attacked.Tie as tie
 
-between-table-requires : tie.Need-between-table-requires
-between-table-requires c κs = search needs
-
-ask-gate-requires : tie.Need-ask-gate-requires
-ask-gate-requires c κs = search needs
-
-kept-requires : tie.Need-kept-requires
-kept-requires c κs = search needs
-
-enum-known-v : tie.Need-enum-known-v
-enum-known-v c = search needs
-
-enum-told : tie.Need-enum-told
-enum-told c = search needs
-
-is-attacked-requires : tie.Need-is-attacked-requires
-is-attacked-requires c κs = let b = c .before .before .before .before .before .before .before .before .args .self in let sq = c .before .before .before .before .before .before .before .before .args .sq in let e : c .before .before .before .before .kept .result ≡ b = c .before .before .before .before .kept .ensures ∙ rw (c .before .before .enum-told .given .1) in let k = ask-accepted b sq (sym (c .before .before .before .before .before .ask-gate .ensures) ∙ c .before .before .enum-told .given .1) in (subst (λ (x : RetractableBoard). Clean (x .pieces) (x .colors)) (sym e) (gate-sound b (let e : length (b .pieces) ≡ 6 = search needs in e) (let e : length (b .colors) ≡ 2 = search needs in e) (λ i. let f : Fits w64 (getD (b .pieces) i 0) = search needs in f .fits) (λ i. let f : Fits w64 (getD (b .colors) i 0) = search needs in f .fits) (k .0) .clean), omega (arith, ltb-true sq 64 (k .1)))
+attackers-requires : tie.Need-attackers-requires
+attackers-requires c κs = search needs
 
 told-requires : tie.Need-told-requires
 told-requires c κs = search needs
 
 returns : tie.Need-returns
-returns c = let a = c .before .before .before .before .before .before .before .args in let b = a .self in tells-by (c .before .before .before .before .ask-gate .result) (askTests b (a .sq)) b (ap (λ (v : Verdict). verdictNumber v) (c .before .before .before .before .ask-gate .ensures) ∙ ask-number b (a .sq)) (attackedSays (toldBy (attacked (menOn b) (a .color) (a .sq)))) (rw (c .before .v .given .1)) (c .before .before .before .kept .ensures)
-
-returns-2 : tie.Need-returns-2
-returns-2 c = let a = c .before .before .before .before .before .before .before .before .before .before .args in let b = a .self in let e : c .before .before .before .before .before .before .kept .result ≡ b = c .before .before .before .before .before .before .kept .ensures ∙ rw (c .before .before .before .before .enum-told .given .1) in tells-by (c .before .before .before .before .before .before .before .ask-gate .result) (askTests b (a .sq)) b (ap (λ (v : Verdict). verdictNumber v) (c .before .before .before .before .before .before .before .ask-gate .ensures) ∙ ask-number b (a .sq)) (attackedSays (toldBy (attacked (menOn b) (a .color) (a .sq)))) (rw (c .before .before .before .before .enum-told .given .1, c .told .ensures, c .before .is-attacked .ensures) (ap (λ (x : RetractableBoard). attackedSays (toldBy (attacked (menOn x) (a .color) (a .sq)))) e)) (c .before .before .before .before .before .before .kept .ensures)
+unfolding attackersOf
+returns c =
+    let a = c .before .before .before .args in
+    let k = c .before .before .attackers .ensures in
+    record {
+      said = ap attackedSays (c .told .ensures) ∙ told-behind (askTests (a .self) (a .sq)) (Set (attackersOf (menOn (a .self)) (a .color) (a .sq))) (c .before .before .attackers .result .answer) (k .said)
+          ∙ ap (λ (t : Bool). behind (askTests (a .self) (a .sq)) (attackedSays (toldBy t))) (some-test (attacksFrom (menOn (a .self)) (a .color) (a .sq)));
+      board = k .board;
+    }
 
 pub is-attacked-spec : {M : Type 1} → statement M
-is-attacked-spec =
-    tie.close
-    (tie.spec
-    between-table-requires
-    ask-gate-requires
-    kept-requires
-    enum-known-v
-    enum-told
-    is-attacked-requires
-    told-requires
-    returns
-    returns-2)
+is-attacked-spec = tie.close (tie.spec attackers-requires told-requires returns)
