@@ -6,45 +6,18 @@ use view::View;
 ghost use mathlib.Core.Path.{_≡_};
 ghost use Prim.Native.Nat.{_<_};
 ghost use Rattle.retraction_list.specs.inner.Pushing.{pushedAll};
-ghost use Rattle.view.specs.inner.Readiness.{Ready};
-ghost use Rattle.kings.specs.Kings.{farOf, nearOf, attackedOf, stepsOf, steppedOf, safeOf, castledOf, shortOf, longOf, uncastledOf, kingOf};
+ghost use Rattle.view.specs.inner.Readiness.{Whole, Ready};
+ghost use Rattle.kings.specs.Kings.{attackedOf, stepsOf, steppedOf, safeOf, castledOf, shortOf, longOf, uncastledOf, kingOf};
 
-// The rooks, bishops and queens of the side to move that see sq.
-fn far(v: View, sq: u8) -> u64
-    requires { ⌜ sq < 64 ⌝ }
-    ensures { λ r. ⌜ r ≡ farOf v sq ⌝ }
-{
-    let rook = sliding::inner::get_rook_moves(sq, v.combined);
-    let bishop = sliding::inner::get_bishop_moves(sq, v.combined);
-    let b = v.foes[2];
-    let r = v.foes[3];
-    let q = v.foes[4];
-    (rook & (r | q)) | (bishop & (b | q))
-}
-
-// Its knights, king and pawns that see sq.
-fn near(v: View, sq: u8) -> u64
-    requires { ⌜ sq < 64 ⌝ }
-    ensures { λ r. ⌜ r ≡ nearOf v sq ⌝ }
-{
-    let color = v.color;
-    let knight = tables::inner::get_knight_moves(sq);
-    let king = tables::inner::get_king_moves(sq);
-    let pawn = tables::inner::get_pawn_attacks(color, sq);
-    let p = v.foes[0];
-    let n = v.foes[1];
-    let k = v.foes[5];
-    ((knight & n) | (king & k)) | (pawn & p)
-}
-
-// `is_attacked(board, sq, !retracting_color)`
+// `is_attacked(board, sq, !retracting_color)`, by the one routine that finds attackers.
 fn is_attacked(v: View, sq: u8) -> bool
-    requires { ⌜ sq < 64 ⌝ }
+    requires { ⌜ Whole v × (sq < 64) ⌝ }
     ensures { λ r. ⌜ r ≡ attackedOf v sq ⌝ }
 {
-    let a = far(v, sq);
-    let b = near(v, sq);
-    a | b != 0
+    let pieces = v.pieces;
+    let colors = v.colors;
+    let color = v.color;
+    attacks::inner::is_attacked(pieces, colors, sq, geometry::other(color))
 }
 
 // The king's steps back, onto the checker's ray if there is one.
@@ -75,7 +48,7 @@ fn stepped(list: RetractionList, t: &[u64; 4096], v: View, targets: u64) -> Retr
 }
 
 fn safe(v: View, rook: u8, e: u8) -> bool
-    requires { ⌜ (rook < 64) × (e < 64) ⌝ }
+    requires { ⌜ Whole v × (rook < 64) × (e < 64) ⌝ }
     ensures { λ r. ⌜ r ≡ safeOf v rook e ⌝ }
 {
     let a = is_attacked(v, rook);
@@ -85,7 +58,7 @@ fn safe(v: View, rook: u8, e: u8) -> bool
 
 // The king may have come from e over the rook's square, and the rook from the corner.
 fn castled(v: View, n: u32, rook: u8, e: u8, corner: u8) -> bool
-    requires { ⌜ (v .oppking < 64) × (rook < 64) × (e < 64) ⌝ }
+    requires { ⌜ Whole v × (v .oppking < 64) × (rook < 64) × (e < 64) ⌝ }
     ensures { λ r. ⌜ r ≡ castledOf v n rook e corner ⌝ }
 {
     let stands = squares::has(v.men[3], rook);
@@ -99,7 +72,7 @@ fn castled(v: View, n: u32, rook: u8, e: u8, corner: u8) -> bool
 }
 
 fn short(v: View, n: u32) -> bool
-    requires { ⌜ v .oppking < 64 ⌝ }
+    requires { ⌜ Whole v × (v .oppking < 64) ⌝ }
     ensures { λ r. ⌜ r ≡ shortOf v n ⌝ }
 {
     let color = v.color;
@@ -112,7 +85,7 @@ fn short(v: View, n: u32) -> bool
 }
 
 fn long(v: View, n: u32) -> bool
-    requires { ⌜ v .oppking < 64 ⌝ }
+    requires { ⌜ Whole v × (v .oppking < 64) ⌝ }
     ensures { λ r. ⌜ r ≡ longOf v n ⌝ }
 {
     let color = v.color;
@@ -127,7 +100,7 @@ fn long(v: View, n: u32) -> bool
 }
 
 fn uncastled(list: RetractionList, v: View, n: u32) -> RetractionList
-    requires { ⌜ v .oppking < 64 ⌝ }
+    requires { ⌜ Whole v × (v .oppking < 64) ⌝ }
     ensures { λ r. ⌜ r ≡ pushedAll list (uncastledOf v n) ⌝ }
 {
     let color = v.color;

@@ -11,20 +11,23 @@ use Rattle.refusal.specs.declared.Verdict.{Verdict}
 use Rattle.refusal.specs.declared.Verdict.the-variants.{Accepted, Refused as refused}
 use Rattle.refusal.specs.Said.{_else_, firstFailing, Said, told, refusal, behind}
 use Rattle.board.specs.declared.RetractableBoard.{RetractableBoard}
-use Rattle.board.specs.Gate.{gateOf, boardTests}
+use Rattle.board.specs.Gate.{positionOn, gateOf, boardTests}
 use Rattle.retraction_list.specs.declared.RetractionList.{RetractionList}
 use Rattle.retraction_list.specs.Entries.{holding}
 use Rattle.retraction_list.specs.inner.Pushing.{answerOf}
 use Rattle.retraction_gen.specs.declared.Next.{Next}
 use Rattle.retraction_gen.specs.declared.Next.the-variants.{Retraction, End}
 use Rattle.retraction_gen.specs.declared.Stepped.{Stepped}
-use Rattle.retraction_gen.specs.Making.{masksOn, startOf, fullTest}
+use Rattle.view.specs.Views.{viewOf}
+use Rattle.view.specs.inner.Readiness.{Whole}
+use Rattle.retraction_gen.specs.Making.{viewOn, masksOn, startOf, fullTest}
 use Rattle.retraction_gen.specs.Cursors.{nextSays, nextOf, Steps}
 use Rattle.limited.specs.declared.Limited.{Limited}
 use Rattle.limited.specs.declared.Limited.the-variants.{Yes, No, Refused}
-use Rattle.limited.specs.Limiting.{limitedSays, isNone, pawnlessOn, nothingOn, sideOf, limitedFrom, limitedOf}
+use Rattle.limited.specs.Limiting.{limitedSays, isNone, flipped, pawnlessOn, nothingOn, sideOf, limitedFrom, limitedOf}
 use Rattle.refusal.proofs.Saying.{behind-by}
 use Rattle.refusal.proofs.Writing.{no-value, no-both}
+use Rattle.view.proofs.Seen.{whole}
 use Rattle.board.proofs.Numbers.{gate-refuses, gate-passes}
 use Rattle.retraction_gen.proofs.Filled.{held-is, full-fails, held-passes}
 
@@ -51,6 +54,11 @@ module _ (b : RetractableBoard) (l : RetractionList) (e : l ≡ answerOf (pawnle
       (ap nextSays (sym k) ∙ n .answer ∙ ap (λ (q : RetractionList). nextOf (startOf q ms) .said) (held-is (pawnlessOn b) l e f)
       ∙ ap (λ (q : List ℕ). nextOf (startOf (holding (pawnlessOn b)) q) .said) m)
       ∙ behind-by Accepted (fullTest (pawnlessOn b)) _ (sym (held-passes (pawnlessOn b) l e f))
+
+-- the flipped board has the same men
+pub flip-whole : (b : RetractableBoard) → Whole (viewOn b) → Whole (viewOn (flipped b))
+unfolding viewOf
+flip-whole b w = whole (positionOn (flipped b)) (b .combined) (b .pinned) (b .checkers) (w .clean) (w .union)
 
 -- what is said by the first side, or, where it has something to give, x
 abbrev pub orElse : Limited → Said → Said

@@ -8,6 +8,8 @@ ghost use mathlib.Core.Path.{_≡_};
 ghost use mathlib.Core.List.{[], _∷_};
 ghost use Rattle.geometry.specs.Lines.{IsBetween};
 ghost use Rattle.refusal.specs.Said.{told};
+ghost use Rattle.view.specs.inner.Readiness.{Whole};
+ghost use Rattle.retraction_gen.specs.Making.{viewOn};
 ghost use Rattle.limited.specs.Limiting.{limitedSays, namesSquare, flipped, sideOf, sidesOf, limitedFrom, limitedOf};
 
 pub enum Limited {
@@ -52,7 +54,7 @@ fn flip(b: RetractableBoard) -> RetractableBoard
 
 // Whether the side that does not have the turn has no retraction but of pawns.
 fn side(t: &[u64; 4096], b: RetractableBoard) -> Limited
-    requires { ⌜ IsBetween (now t) ⌝ }
+    requires { ⌜ IsBetween (now t) × Whole (viewOn b) ⌝ }
     ensures { λ r. ⌜ limitedSays r ≡ sideOf b (told (0 ∷ [])) ⌝ }
 {
     let v = retraction_gen::inner::seen(b);
@@ -72,7 +74,7 @@ fn side(t: &[u64; 4096], b: RetractableBoard) -> Limited
 
 // The second list is built only where the first yields something.
 fn sides(t: &[u64; 4096], b: RetractableBoard) -> Limited
-    requires { ⌜ IsBetween (now t) ⌝ }
+    requires { ⌜ IsBetween (now t) × Whole (viewOn b) ⌝ }
     ensures { λ r. ⌜ limitedSays r ≡ sidesOf b ⌝ }
 {
     let first = side(t, b);
@@ -85,7 +87,7 @@ fn sides(t: &[u64; 4096], b: RetractableBoard) -> Limited
 
 // A check or a named square answers before any list.
 fn limited_from(t: &[u64; 4096], b: RetractableBoard) -> Limited
-    requires { ⌜ IsBetween (now t) ⌝ }
+    requires { ⌜ IsBetween (now t) × Whole (viewOn b) ⌝ }
     ensures { λ r. ⌜ limitedSays r ≡ limitedFrom b ⌝ }
 {
     let passant = b.passant;

@@ -1,28 +1,18 @@
 -- `is_attacked` asks what `attackedOf` asks, and both ask what the Laws call attacked.
-use mathlib.Core.Path.{_≡_, refl, ap, ap₂, _∙_}
-use mathlib.Core.Bool.{Bool}
-use Prim.Native.Nat.{ℕ, _<_, _^_}
-use native.Mathlib.Nat.{lt-of-le-of-lt}
-use lib.Bits.{or-zero-l, and-le-l, or-lt}
-use Rattle.squares.specs.Tests.{_and_, _or_}
-use Rattle.squares.specs.Squares.{has, setOf}
+use mathlib.Core.Path.{_≡_, ap, ap₂, _∙_}
+use Prim.Native.Nat.{ℕ, _<_}
+use lib.Bits.{or-zero-l}
 use Rattle.geometry.specs.declared.Color.{Color}
 use Rattle.geometry.specs.Colors.{opp}
-use Rattle.laws.specs.declared.Piece.{Piece}
 use Rattle.laws.specs.declared.Piece.the-variants.{Pawn, Knight, Bishop, Rook, Queen, King}
-use Rattle.laws.specs.Men.{Men}
-use Rattle.laws.specs.Attacks.{attacksFrom, attacked, attackersOf, unionOf}
-use Rattle.laws.specs.Boards.{menAt, Clean, Board}
-use Rattle.attacks.specs.inner.Meeting.{metOf}
-use Rattle.geometry.specs.Chess.{knightMoves, kingMoves, bishopMoves, rookMoves, pawnAttacks}
+use Rattle.laws.specs.Attacks.{attacked, unionOf}
+use Rattle.laws.specs.Boards.{menAt, Clean, Board, fieldsOf}
+use Rattle.geometry.specs.Chess.{knightMoves, kingMoves, bishopMoves, rookMoves}
 use Rattle.view.specs.Views.{within, viewOf}
 use Rattle.kings.specs.Kings.{farOf, nearOf, attackedOf}
-use Rattle.squares.proofs.Testing.{agree, agree-eq}
-use Rattle.squares.proofs.Digits.{has-and, has-or}
-use Rattle.squares.proofs.Comprehension.{ext, upTo-lt}
-use Rattle.squares.proofs.Every.{some-test}
-use Rattle.laws.proofs.Cases.{by-cases}
-use Rattle.attacks.proofs.Meets.{met-lt, met-is}
+use Rattle.laws.proofs.Mans.{opp-opp}
+use Rattle.view.proofs.Seen.{whole}
+use Rattle.kings.proofs.Attacked.{same-attack}
 use Rattle.piece_type.specs.Bitboards.{_&_, _¦_, _!=_, EMPTY}
 use Rattle.piece_type.specs.Squares.{getPawnAttacks}
 use Rattle.piece_type.specs.Boards.{piecesOf, colorCombined, isAttacked}
@@ -54,64 +44,10 @@ attacked-is b sq =
     (share (bishopMoves sq (b .combined)) (piecesOf b Bishop) (piecesOf b Queen) set))
     (ap (λ (x : ℕ). x ¦ pawns) (ap₂ _¦_ (and-assoc (knightMoves sq) (piecesOf b Knight) set) (and-assoc (kingMoves sq) (piecesOf b King) set))))
 
--- the Rust's five sets of attackers, and the set of those that `attacks` asks for, grouped otherwise
-one-kind : (x t o : Bool) → (x and (t and o)) ≡ (o and (t and x))
-unfolding _and_
-one-kind x t o = agree-eq _ _ (by-cases 3 (λ x t o. agree (x and (t and o)) (o and (t and x))) refl x t o)
-
-two-kinds : (x t u o : Bool) → (x and ((t and o) or (u and o))) ≡ (o and ((t or u) and x))
-unfolding _and_ _or_
-two-kinds x t u o = agree-eq _ _ (by-cases 4 (λ x t u o. agree (x and ((t and o) or (u and o))) (o and ((t or u) and x))) refl x t u o)
-
-joined : (o s d n k p : Bool) → (((o and s) or (o and d)) or (((o and n) or (o and k)) or (o and p))) ≡ (o and ((((p or n) or d) or s) or k))
-unfolding _and_ _or_
-joined o s d n k p =
-    agree-eq _ _
-    (by-cases 6 (λ o s d n k p. agree (((o and s) or (o and d)) or (((o and n) or (o and k)) or (o and p))) (o and ((((p or n) or d) or s) or k))) refl o s d n k p)
-
-kinds-joined : (o p n v r q k P N D S K : Bool)
-    → (((S and ((r and o) or (q and o))) or (D and ((v and o) or (q and o)))) or (((N and (n and o)) or (K and (k and o))) or (P and (p and o))))
-    ≡ (o and (((((p and P) or (n and N)) or ((v or q) and D)) or ((r or q) and S)) or (k and K)))
-kinds-joined o p n v r q k P N D S K =
-    (λ i. (two-kinds S r q o i or two-kinds D v q o i) or ((one-kind N n o i or one-kind K k o i) or one-kind P p o i))
-    ∙ joined o ((r or q) and S) ((v or q) and D) (n and N) (k and K) (p and P)
-
-module _ (b : Board) (ok : Clean (b .pieces) (b .colors)) where
-  abbrev m : Men
-  m = menAt (b .pieces) (b .colors)
-
-  abbrev c : Color
-  c = b .turn
-
-  abbrev theirs : Piece → ℕ
-  theirs k = piecesOf b k & colorCombined b c
-
-  -- what `attackedOf` asks, over the men of occ
-  abbrev asked : ℕ → ℕ → ℕ
-  asked sq occ =
-      rookMoves sq occ & (theirs Rook ¦ theirs Queen) ¦ bishopMoves sq occ & (theirs Bishop ¦ theirs Queen)
-      ¦ (knightMoves sq & theirs Knight ¦ kingMoves sq & theirs King ¦ pawnAttacks (opp c) sq & theirs Pawn)
-
-  below : (p : ℕ → Bool) (x : ℕ) → setOf p & x < 2 ^ 64
-  below p x = lt-of-le-of-lt (and-le-l (setOf p) x) (upTo-lt 64 p)
-
-  asked-is : (sq : ℕ) → sq < 64 → asked sq (unionOf m) ≡ attackersOf m c sq
-  unfolding metOf
-  asked-is sq h =
-      let P = pawnAttacks (opp c) sq in
-      let N = knightMoves sq in
-      let D = bishopMoves sq (unionOf m) in
-      let S = rookMoves sq (unionOf m) in
-      let K = kingMoves sq in
-      ext 64 _ (metOf (b .pieces) (colorCombined b c) P N D S K)
-      (or-lt 64 _ _ (or-lt 64 _ _ (below _ _) (below _ _)) (or-lt 64 _ _ (or-lt 64 _ _ (below _ _) (below _ _)) (below _ _)))
-      (met-lt (b .pieces) (b .colors) ok c P N D S K)
-      (λ j l. simp (has-and, has-or)
-      (kinds-joined (has (colorCombined b c) j) (has (piecesOf b Pawn) j) (has (piecesOf b Knight) j) (has (piecesOf b Bishop) j) (has (piecesOf b Rook) j)
-      (has (piecesOf b Queen) j) (has (piecesOf b King) j) (has P j) (has N j) (has D j) (has S j) (has K j)))
-      ∙ met-is (b .pieces) (b .colors) ok c sq h
-
-  -- on clean men whose union the board holds, the side to move attacks the squares that the Laws say
-  pub same-attack : b .combined ≡ unionOf m → (sq : ℕ) → sq < 64 → attackedOf (viewAt b) sq ≡ attacked m c sq
-  unfolding attackedOf farOf nearOf within viewOf attackersOf
-  same-attack u sq h = ap (λ (occ : ℕ). asked sq occ != EMPTY) u ∙ ap (λ (x : ℕ). x != EMPTY) (asked-is sq h) ∙ some-test (attacksFrom m c sq)
+-- on clean men whose union the board holds, the side to move attacks the squares that the Laws say
+pub rust-attack : (b : Board) → Clean (b .pieces) (b .colors) → b .combined ≡ unionOf (menAt (b .pieces) (b .colors)) → (sq : ℕ) → sq < 64
+    → isAttacked b sq (b .turn) ≡ attacked (menAt (b .pieces) (b .colors)) (b .turn) sq
+unfolding viewOf
+rust-attack b ok u sq h =
+    attacked-is b sq ∙ same-attack (viewAt b) (whole (fieldsOf b) (b .combined) (b .pinned) (b .checkers) ok u) sq h
+    ∙ ap (λ (c : Color). attacked (menAt (b .pieces) (b .colors)) c sq) (opp-opp (b .turn))

@@ -1,3 +1,4 @@
+pub mod Seen
 pub mod Filled
 pub mod Gated
 pub mod Lowest

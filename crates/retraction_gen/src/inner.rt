@@ -13,7 +13,8 @@ use view::View;
 ghost use mathlib.Core.Path.{_≡_};
 ghost use Prim.Native.Nat.{_<_};
 ghost use Rattle.geometry.specs.Lines.{IsBetween};
-ghost use Rattle.refusal.specs.declared.Verdict.the-variants.{Refused};
+ghost use Rattle.refusal.specs.declared.Verdict.the-variants.{Accepted, Refused};
+ghost use Rattle.board.specs.Gate.{gateOf};
 ghost use Rattle.retraction_gen.specs.Making.{viewOn, listOn, startOf, fullTest, cursorOn, noCursor, Makes};
 ghost use Rattle.retraction_gen.specs.declared.Turn.the-variants.{Again, Found};
 ghost use Rattle.retraction_gen.specs.Cursors.{turned, entryAt, spent, isUnEnPassant, against, barred, turnIn, onEntry, turnOf, wellFormed};
@@ -55,9 +56,9 @@ pub fn refused(why: Refusal) -> Made
     }
 }
 
-// The cursor of a board, its gate left to the caller, or FULL. `t` is the table of squares between, lent.
+// The cursor of a board that its gate let pass, or FULL. `t` is the table of squares between, lent.
 pub fn made_from(t: &[u64; 4096], b: RetractableBoard) -> Made
-    requires { ⌜ IsBetween (now t) ⌝ }
+    requires { ⌜ IsBetween (now t) × (gateOf b ≡ Accepted) ⌝ }
     ensures { λ r. ⌜ Makes (fullTest (listOn b)) (cursorOn b) r ⌝ }
 {
     let v = seen(b);

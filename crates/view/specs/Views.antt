@@ -50,6 +50,8 @@ viewOf p combined pinned checkers = record {
   oppking = kingSquare p (p .turn);
   pinned = pinned;
   checkers = checkers;
+  pieces = p .pieces;
+  colors = p .colors;
   passant = p .passant;
   edition = p .terms .edition;
 }

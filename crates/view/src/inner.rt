@@ -89,6 +89,8 @@ pub fn look(p: Position, combined: u64, pinned: u64, checkers: u64) -> View
         oppking: to_square(foes[5]),
         pinned: pinned,
         checkers: checkers,
+        pieces: pieces,
+        colors: colors,
         passant: passant,
         edition: edition,
     }

@@ -26,6 +26,9 @@ pub struct View {
     pub oppking: u8,
     pub pinned: u64,
     pub checkers: u64,
+    // the board's own sets, which `is_attacked` reads
+    pub pieces: [u64; 6],
+    pub colors: [u64; 2],
     // the state, and the edition that a dash is read in
     pub passant: EnPassantFlag,
     pub edition: Edition,

@@ -1,5 +1,10 @@
 -- `limited::is_limited_in_retractions` meets its contract.
+use mathlib.Core.Path.{_≡_, sym, _∙_}
+use lib.ListN.{getD, length}
+use mir.Syntax.{w64}
+use mir.Val.{Fits}
 use borrow.Author.Needs.{needs}
+use Rattle.retraction_gen.proofs.Seen.{seen-whole}
 use Rattle.limited.proofs.Fitting.{limited-refused, limited-on}
 use Rattle.limited.proofs.is_limited_in_retractions.Statement.{statement}
 use Rattle.limited.proofs.is_limited_in_retractions.Tie as tie
@@ -17,7 +22,7 @@ enum-told : tie.Need-enum-told
 enum-told c = search needs
 
 limited-from-requires : tie.Need-limited-from-requires
-limited-from-requires c κs = search needs
+limited-from-requires c κs = let b = c .before .before .before .before .before .before .args .b in (c .before .before .before .before .before .between-table .ensures, seen-whole b (let e : length (b .pieces) ≡ 6 = search needs in e) (let e : length (b .colors) ≡ 2 = search needs in e) (λ i. let f : Fits w64 (getD (b .pieces) i 0) = search needs in f .fits) (λ i. let f : Fits w64 (getD (b .colors) i 0) = search needs in f .fits) (sym (c .before .before .before .gate .ensures) ∙ c .before .enum-told .given .1))
 
 returns : tie.Need-returns
 returns c = limited-refused _ _ (c .before .before .before .gate .ensures) (c .before .v .given .0 .0) (c .before .v .given .1)

@@ -10,7 +10,7 @@ seen-requires : tie.Need-seen-requires
 seen-requires c κs = search needs
 
 all-but-pawns-requires : tie.Need-all-but-pawns-requires
-all-but-pawns-requires c κs = rw (c .seen .ensures) (ready _ _ _ _ _ (c .before .pre))
+all-but-pawns-requires c κs = rw (c .seen .ensures) (ready _ _ _ _ _ (c .before .pre .0) (c .before .pre .1))
 
 returns : tie.Need-returns
 returns c = side-full (c .before .before .before .args .b) _ (rw (c .before .before .seen .ensures) at (c .before .all-but-pawns .ensures)) (c .if1 .taken)

@@ -3,7 +3,7 @@ use mathlib.Core.Path.{sym, ap, _∙_}
 use borrow.Author.Needs.{needs}
 use Rattle.limited.specs.declared.Limited.the-variants.{Yes, No, Refused}
 use Rattle.limited.specs.Limiting.{limitedSays, sidesOf}
-use Rattle.limited.proofs.Fitting.{side-then}
+use Rattle.limited.proofs.Fitting.{side-then, flip-whole}
 use Rattle.limited.proofs.sides.Statement.{statement}
 use Rattle.limited.proofs.sides.Tie as tie
 
@@ -23,7 +23,7 @@ flip-requires : tie.Need-flip-requires
 flip-requires c κs = search needs
 
 side-requires-2 : tie.Need-side-requires-2
-side-requires-2 c κs = search needs
+side-requires-2 c κs = (c .before .before .before .before .pre .0, rw (c .flip .ensures) (flip-whole _ (c .before .before .before .before .pre .1)))
 
 returns : tie.Need-returns
 unfolding sidesOf

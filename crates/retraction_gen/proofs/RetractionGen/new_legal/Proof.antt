@@ -1,4 +1,5 @@
 -- `retraction_gen::RetractionGen::new_legal` meets its contract.
+use mathlib.Core.Path.{sym, _∙_}
 use borrow.Author.Needs.{needs}
 use Rattle.retraction_gen.proofs.Gated.{makes-refused, makes-on}
 use Rattle.retraction_gen.proofs.RetractionGen.new_legal.Statement.{statement}
@@ -20,7 +21,7 @@ enum-told : tie.Need-enum-told
 enum-told c = search needs
 
 made-from-requires : tie.Need-made-from-requires
-made-from-requires c κs = search needs
+made-from-requires c κs = (c .before .before .before .before .before .between-table .ensures, sym (c .before .before .before .gate .ensures) ∙ c .before .enum-told .given .1)
 
 returns : tie.Need-returns
 returns c = makes-refused _ _ (c .before .before .before .before .gate .ensures) _ _ (c .before .before .v .given .1) (c .refused .ensures)

@@ -1,11 +1,15 @@
 -- `retraction_gen::inner::made_from` meets its contract.
-use mathlib.Core.Path.{sym, ap, _∙_}
+use mathlib.Core.Path.{_≡_, sym, ap, _∙_}
+use lib.ListN.{getD, length}
+use mir.Syntax.{w64}
+use mir.Val.{Fits}
 use borrow.Author.Needs.{needs}
 use Rattle.refusal.specs.declared.Refusal.the-variants.{Full}
 use Rattle.refusal.specs.Refusals.{verdictNumber}
 use Rattle.retraction_gen.specs.Making.{listOn, masksOn, cursorOn}
 use Rattle.refusal.proofs.Tested.{beside-none, beside-refused}
 use Rattle.view.proofs.Seen.{ready}
+use Rattle.retraction_gen.proofs.Seen.{seen-whole}
 use Rattle.retraction_gen.proofs.Filled.{held-is, full-fails, held-passes}
 use Rattle.retraction_gen.proofs.inner.made_from.Statement.{statement}
 use Rattle.retraction_gen.proofs.inner.made_from.Tie as tie
@@ -14,7 +18,7 @@ seen-requires : tie.Need-seen-requires
 seen-requires c κs = search needs
 
 enumerate-requires : tie.Need-enumerate-requires
-enumerate-requires c κs = rw (c .seen .ensures) (ready _ _ _ _ _ (c .before .pre))
+enumerate-requires c κs = let b = c .before .args .b in rw (c .seen .ensures) (ready _ _ _ _ _ (c .before .pre .0) (seen-whole b (let e : length (b .pieces) ≡ 6 = search needs in e) (let e : length (b .colors) ≡ 2 = search needs in e) (λ i. let f : Fits w64 (getD (b .pieces) i 0) = search needs in f .fits) (λ i. let f : Fits w64 (getD (b .colors) i 0) = search needs in f .fits) (c .before .pre .1)))
 
 refused-requires : tie.Need-refused-requires
 refused-requires c κs = search needs

@@ -46,7 +46,7 @@ to-square-requires-2 c κs = search needs
 
 returns : tie.Need-returns
 unfolding viewOf _or_
-returns c = rw (c .to-square2 .ensures .0, c .before .to-square .ensures .0, c .before .before .castling-rooks .ensures, c .before .before .before .among2 .ensures, c .before .before .before .before .among .ensures, c .before .before .before .before .before .color-set2 .ensures, c .before .before .before .before .before .before .color-set .ensures, c .before .before .before .before .before .before .before .has-right2 .ensures, c .before .before .before .before .before .before .before .before .has-right .ensures, c .before .before .before .before .before .before .before .before .before .other .ensures)
+returns c = rw (c .to-square2 .ensures .0, c .before .to-square .ensures .0, c .before .before .castling-rooks .ensures, c .before .before .before .among2 .ensures, c .before .before .before .before .among .ensures) (rw (c .before .before .before .before .before .color-set2 .ensures, c .before .before .before .before .before .before .color-set .ensures, c .before .before .before .before .before .before .before .has-right2 .ensures, c .before .before .before .before .before .before .before .before .has-right .ensures) (rw (c .before .before .before .before .before .before .before .before .before .other .ensures)))
 
 pub look-spec : {M : Type 1} → statement M
 look-spec =
