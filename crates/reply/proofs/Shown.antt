@@ -18,9 +18,10 @@ use Rattle.text.specs.Entries.{textOn}
 use Rattle.output.specs.declared.Put.{Put}
 use Rattle.output.specs.Appending.{usedOf, PutsDecimal, Adds}
 use Rattle.rows.specs.Rows.{decimalOf, reportOf}
-use Rattle.reply.specs.Replies.{word, newline, refusedText, Shows}
+use Rattle.reply.specs.Replies.{word, newline, refusedText, boardText, Shows}
 use Rattle.refusal.proofs.Saying.{some-number}
 use Rattle.refusal.proofs.Writing.{Written, Roomless, Failed}
+use Rattle.board.proofs.Passing.{gate-passed}
 use Rattle.board.proofs.Numbers.{gate-passes}
 use Rattle.text.proofs.Tails.{print-short}
 use Rattle.output.proofs.Added.{adds, added-len, added-out, added-length}
@@ -59,14 +60,17 @@ text-short b = print-short (menOn b) (b .turn) (b .white) (b .black) (b .passant
 
 -- a board's text and the report behind it
 module _ (b : RetractableBoard) (o o₁ : List ℕ) (m : ℕ) (l : length o ≡ 196608) where
-  pub lists-shown : (listed strict : List ℕ) → length listed ≤ 8192 → length strict ≤ 8192 → {ts : List Test} (n r : ℕ) (o₂ o₃ : List ℕ) → Written ts (textOn b) o m o₁
-      → Adds o₁ m newline n o₂ → Adds o₂ n (reportOf listed strict) r o₃ → Shows (textOn b ++ newline ++ reportOf listed strict) r o o₃
-  lists-shown listed strict u v n r o₂ o₃ k w x =
+  pub lists-shown : gateOf b ≡ Accepted → (listed strict : List ℕ) → length listed ≤ 8192 → length strict ≤ 8192 → {ts : List Test} (n r : ℕ) (o₂ o₃ : List ℕ)
+      → Written ts (textOn b) o m o₁ → Adds o₁ m newline n o₂ → Adds o₂ n (reportOf (b .checkers) listed strict) r o₃ → Shows (boardText b listed strict) r o o₃
+  lists-shown g listed strict u v n r o₂ o₃ k w x =
+      let e = gate-passed b g .checkers-are in
+      let t = reportOf (b .checkers) listed strict in
       let s = text-short b in
-      let y = report-short listed strict u v in
+      let y = report-short (b .checkers) listed strict u v in
       let two = adds-then o o₁ o₂ (textOn b) newline 0 m n (simp length-append (omega arith)) (written-added k) w in
-      let three = adds-then o o₂ o₃ (textOn b ++ newline) (reportOf listed strict) 0 n r (simp length-append (omega arith)) two x in
-      shown o o₃ (textOn b ++ newline ++ reportOf listed strict) r three (simp length-append (omega arith))
+      let three = adds-then o o₂ o₃ (textOn b ++ newline) t 0 n r (simp length-append (omega arith)) two x in
+      subst (λ (c : ℕ). Shows (textOn b ++ newline ++ reportOf c listed strict) r o o₃) e
+      (shown o o₃ (textOn b ++ newline ++ t) r three (simp length-append (omega arith)))
 
   pub never-room : {ts : List Test} → Roomless ts (textOn b) o m o₁ → ⊥
   never-room k = omega (arith, text-short b, k .short)

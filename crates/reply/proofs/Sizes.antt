@@ -5,9 +5,10 @@ use Prim.Native.Nat.{ℕ, suc, _+_, _*_, _≤_}
 use native.Mathlib.Omega.{arith}
 use lib.ListN.{length, length-append}
 use Rattle.squares.specs.Members.{concat}
-use Rattle.rows.specs.Rows.{decimalOf, rowOf, star, isIn, listedRow, strictRow, rowsOf, listedWord, strictWord, headOf, reportOf}
+use Rattle.rows.specs.Rows.{decimalOf, rowOf, star, isIn, listedRow, strictRow, rowsOf, listedWord, strictWord, headOf, squaresText, checkersLine, reportOf}
 use Rattle.rows.proofs.Decimals.{few-digits}
 use Rattle.rows.proofs.Rows.{listed-size}
+use Rattle.rows.proofs.Squares.{squares-short}
 
 four-digits : (x : ℕ) → x ≤ 8192 → length (decimalOf x) ≤ 4
 four-digits x h = few-digits 3 (suc x) x (omega arith)
@@ -21,16 +22,19 @@ strict-size listed (x ∷ l) = omega (arith, length-append (strictRow listed x) 
     row true = omega arith
     row false = omega arith
 
-pub report-short : (listed strict : List ℕ) → length listed ≤ 8192 → length strict ≤ 8192 → length (reportOf listed strict) ≤ 180248
+pub report-short : (checkers : ℕ) (listed strict : List ℕ) → length listed ≤ 8192 → length strict ≤ 8192 → length (reportOf checkers listed strict) ≤ 180440
 unfolding reportOf
-report-short listed strict h k =
+report-short checkers listed strict h k =
     omega (
       arith,
       four-digits (length listed) h,
       four-digits (length strict) k,
       listed-size strict listed,
       strict-size listed strict,
-      length-append (headOf (length listed) (length strict)) (rowsOf listed strict),
+      squares-short checkers,
+      length-append (headOf (length listed) (length strict) ++ checkersLine checkers) (rowsOf listed strict),
+      length-append (headOf (length listed) (length strict)) (checkersLine checkers),
+      length-append (squaresText checkers) (10 ∷ []),
       length-append (concat (listedRow strict) listed) (concat (strictRow listed) strict),
       length-append (listedWord ++ decimalOf (length listed) ++ strictWord ++ decimalOf (length strict)) (10 ∷ []),
       length-append (listedWord ++ decimalOf (length listed) ++ strictWord) (decimalOf (length strict)),

@@ -1,7 +1,7 @@
 -- The answer to a line, by what the reader, the lists and the printer told, and that there is one.
 use mathlib.Core.Path.{_≡_, refl, sym, _∙_, ap, subst}
 use mathlib.Core.Bool.{Bool, true, false}
-use mathlib.Core.List.{List, [], _++_, map}
+use mathlib.Core.List.{List, [], map}
 use Prim.Native.Nat.{ℕ}
 use lib.Dec.{eqb}
 use lib.ListN.{length, take}
@@ -17,15 +17,14 @@ use Rattle.refusal.specs.Said.{firstFailing, Writes}
 use Rattle.board.specs.declared.RetractableBoard.{RetractableBoard}
 use Rattle.board.specs.declared.Boarded.{Boarded}
 use Rattle.board.specs.Gate.{posOn, gateOf}
-use Rattle.text.specs.Entries.{Reads, textOn}
+use Rattle.text.specs.Entries.{Reads}
 use Rattle.retraction_gen.specs.Making.{listTests}
 use Rattle.retraction_gen.specs.Sequence.{sequenceOn}
 use Rattle.slots.specs.declared.Listed.{Listed}
 use Rattle.slots.specs.declared.Listed.the-variants.{Count, Room, Refused as notListed}
 use Rattle.slots.specs.Slots.{listedSays}
-use Rattle.rows.specs.Rows.{reportOf}
 use Rattle.strict.specs.Demand.{IsStrictList, Lists, strictMoves}
-use Rattle.reply.specs.Replies.{newline, refusedText, roomTest, listedTests, bothTests, numberThen, answerText, over, slotsThen, Shows, AnswersBoard, listedThen, Replies}
+use Rattle.reply.specs.Replies.{refusedText, roomTest, listedTests, bothTests, numberThen, boardText, answerText, over, slotsThen, Shows, AnswersBoard, listedThen, Replies}
 use Rattle.refusal.proofs.Saying.{some-number}
 use Rattle.refusal.proofs.Tested.{stop-on}
 use Rattle.text.proofs.RoundTrip.{read-one}
@@ -37,7 +36,7 @@ use Rattle.reply.proofs.Slots.{roomy, roomless, passed-board, written-i
 -- the board is shown with its lists, or refused
 module _ (b : RetractableBoard) (moves : List ChessRetraction) {n : ℕ} {o out q : List ℕ} where
   answers-shown : IsStrictList b moves → firstFailing (bothTests b moves) ≡ 0 → {strict : List ℕ} → strict ≡ over (map packed moves) q
-      → Shows (textOn b ++ newline ++ reportOf (map packed (sequenceOn b)) (map packed moves)) n o out → AnswersBoard 0 b n o out q strict
+      → Shows (boardText b (map packed (sequenceOn b)) (map packed moves)) n o out → AnswersBoard 0 b n o out q strict
   answers-shown x k e s = record { moves = moves; exact = λ _. x; shows = rw k s; slots = e ∙ rw k }
 
   pub answers-refused : {m x : ℕ} → eqb x 0 ≡ false → (m ≡ 0 → IsStrictList b moves) → x ≡ numberThen m (bothTests b moves) → {strict : List ℕ} → strict ≡ q
@@ -50,13 +49,13 @@ module _ (b : RetractableBoard) (passed : firstFailing (listedTests b) ≡ 0) {q
   exact = x .exact (passed-board b passed)
 
   module _ {n : ℕ} {o out : List ℕ} where
-    pub strict-shown : (k : ℕ) → r ≡ Count k → (p : List ℕ) → p ≡ map packed (sequenceOn b) → Shows (textOn b ++ newline ++ reportOf p (take k after)) n o out
+    pub strict-shown : (k : ℕ) → r ≡ Count k → (p : List ℕ) → p ≡ map packed (sequenceOn b) → Shows (boardText b p (take k after)) n o out
         → AnswersBoard 0 b n o out q after
     strict-shown k e p d s =
         let w = listing-tells (x .moves) r (x .into) (Count k) e in
         answers-shown b (x .moves) exact (roomy (listedTests b) (x .moves) q passed size (w .fits)) (w .holds)
-        (subst (λ (l : List ℕ). Shows (textOn b ++ newline ++ reportOf l (map packed (x .moves))) n o out) d
-        (subst (λ (l : List ℕ). Shows (textOn b ++ newline ++ reportOf p l) n o out) (written-is w) s))
+        (subst (λ (l : List ℕ). Shows (boardText b l (map packed (x .moves))) n o out) d
+        (subst (λ (l : List ℕ). Shows (boardText b p l) n o out) (written-is w) s))
 
     pub strict-roomless : (k : ℕ) → r ≡ Room k → Shows (refusedText (numberOf room)) n o out → AnswersBoard 0 b n o out q after
     strict-roomless k e s =

@@ -8,12 +8,14 @@ use lib.ListN.{length, drop}
 use Rattle.io.specs.Counts.{Counts}
 use Rattle.laws.specs.declared.Edition.{Edition}
 use Rattle.laws.specs.declared.ChessRetraction.{ChessRetraction}
+use Rattle.laws.specs.Attacks.{checkersOf}
 use Rattle.laws.specs.Retractions.{packed}
 use Rattle.refusal.specs.declared.Refusal.the-variants.{Room}
 use Rattle.refusal.specs.Refusals.{verdictNumber}
 use Rattle.refusal.specs.Said.{Test, _else_, firstFailing}
 use Rattle.board.specs.declared.RetractableBoard.{RetractableBoard}
 use Rattle.board.specs.declared.Boarded.{Boarded}
+use Rattle.board.specs.Gate.{menOn}
 use Rattle.text.specs.Entries.{Reads, textOn}
 use Rattle.retraction_gen.specs.Making.{listTests}
 use Rattle.retraction_gen.specs.Sequence.{sequenceOn}
@@ -46,9 +48,13 @@ bothTests b s = listedTests b ++ roomTest s
 abbrev pub numberThen : ℕ → List Test → ℕ
 numberThen m ts = cond (eqb m 0) (firstFailing ts) m
 
--- "prints it, then `listed A strict B` ..", the strict list being s; or the refusal n, where it is not 0
+-- "prints it, then `listed A strict B` ..", under it the Laws' checkers, and the rows of the two lists
+abbrev pub boardText : RetractableBoard → List ℕ → List ℕ → List ℕ
+boardText b listed strict = textOn b ++ newline ++ reportOf (checkersOf (menOn b) (b .turn)) listed strict
+
+-- the board with its lists, the strict one being s; or the refusal n, where it is not 0
 abbrev pub answerText : ℕ → RetractableBoard → List ChessRetraction → List ℕ
-answerText n b s = cond (eqb n 0) (textOn b ++ newline ++ reportOf (map packed (sequenceOn b)) (map packed s)) (refusedText n)
+answerText n b s = cond (eqb n 0) (boardText b (map packed (sequenceOn b)) (map packed s)) (refusedText n)
 
 -- t, and beyond it what stood in o
 abbrev pub over : List ℕ → List ℕ → List ℕ

@@ -1,11 +1,11 @@
-// A refusal by its number; and the answer of a board that its gate let pass: the ported list, then the strict one, then both in writing. `t` is
-// the table of squares between, lent.
+// A refusal by its number; and the answer of a board that its gate let pass: the ported list, then the strict one, then the text, the checkers and
+// both lists in writing. `t` is the table of squares between, lent.
 use board::RetractableBoard;
 use refusal::Refusal;
 use slots::Listed;
 use text::Copied;
 ghost use mathlib.Core.Path.{_≡_};
-ghost use mathlib.Core.List.{_++_, map};
+ghost use mathlib.Core.List.{map};
 ghost use Prim.Native.Nat.{_≤_};
 ghost use lib.ListN.{length};
 ghost use Rattle.geometry.specs.Lines.{IsBetween};
@@ -13,10 +13,8 @@ ghost use Rattle.laws.specs.Retractions.{packed};
 ghost use Rattle.refusal.specs.declared.Verdict.the-variants.{Accepted};
 ghost use Rattle.refusal.specs.Said.{firstFailing};
 ghost use Rattle.board.specs.Gate.{gateOf};
-ghost use Rattle.text.specs.Entries.{textOn};
 ghost use Rattle.retraction_gen.specs.Sequence.{sequenceOn};
-ghost use Rattle.rows.specs.Rows.{reportOf};
-ghost use Rattle.reply.specs.Replies.{newline, refusedText, listedTests, Shows, AnswersBoard, listedThen};
+ghost use Rattle.reply.specs.Replies.{refusedText, listedTests, boardText, Shows, AnswersBoard, listedThen};
 
 // `refused N`, and nothing else, by the number alone: records are refused by numbers that no board has.
 pub fn put_number(number: u8, out: &mut [u8; 196608]) -> usize
@@ -27,15 +25,16 @@ pub fn put_number(number: u8, out: &mut [u8; 196608]) -> usize
     output::put_bytes(out, d, b"\n").used(d)
 }
 
+// The board's own checkers are the Laws', since its gate let it pass.
 fn put_lists(b: RetractableBoard, listed: &[u16], strict: &[u16], out: &mut [u8; 196608]) -> usize
-    requires { ⌜ (length (now listed) ≤ 8192) × (length (now strict) ≤ 8192) ⌝ }
-    ensures { λ n. ⌜ Shows (textOn b ++ newline ++ reportOf (now (listed .entry)) (now (strict .entry))) n (now (out .entry)) (now (out .exit)) ⌝ }
+    requires { ⌜ (gateOf b ≡ Accepted) × (length (now listed) ≤ 8192) × (length (now strict) ≤ 8192) ⌝ }
+    ensures { λ n. ⌜ Shows (boardText b (now (listed .entry)) (now (strict .entry))) n (now (out .entry)) (now (out .exit)) ⌝ }
 {
     let p = text::inner::print(b, out);
     match p {
         Copied::Count(n) => {
             let end = output::put_bytes(out, n, b"\n").used(n);
-            rows::report(out, end, listed, strict).used(end)
+            rows::report(out, end, b.checkers, listed, strict).used(end)
         }
         Copied::Room(_) => 0,
     }

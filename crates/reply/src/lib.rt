@@ -1,4 +1,4 @@
-// The answer to a line of input: its text and the two lists of its board, or its refusal.
+// The answer to a line of input: its text, the checkers and the two lists of its board, or its refusal.
 use laws::Edition;
 use refusal::Refusal;
 use refusal::Verdict;

@@ -69,8 +69,11 @@ module _ (o after : List ℕ) (len x : ℕ) (r : Put) (h : x < 2 ^ 64) (a : Puts
   decimal-added u e =
       used-adds o (decimalOf x) after len r (subst (λ (t : List ℕ). Puts o len t r after) same (a .puts)) u e
 
--- the head, in a buffer of 64
-module _ (o o₁ o₂ o₃ o₄ o₅ : List ℕ) (a b n₁ n₂ n₃ n₄ n : ℕ) (r s : Put) (l : length o ≡ 64) (ha : a < 2 ^ 64) (hb : b < 2 ^ 64) (p₁ : Adds o 0 listedWord n₁ o₁)
+pub head-short : (a b : ℕ) → a < 2 ^ 64 → b < 2 ^ 64 → length (headOf a b) ≤ 56
+head-short a b ha hb = simp length-append (omega (arith, number-short a ha, number-short b hb))
+
+-- the head, in a buffer of 256
+module _ (o o₁ o₂ o₃ o₄ o₅ : List ℕ) (a b n₁ n₂ n₃ n₄ n : ℕ) (r s : Put) (l : length o ≡ 256) (ha : a < 2 ^ 64) (hb : b < 2 ^ 64) (p₁ : Adds o 0 listedWord n₁ o₁)
     (p₂ : PutsDecimal o₁ n₁ a r o₂) (u₂ : n₂ ≡ usedOf r n₁) (p₃ : Adds o₂ n₂ strictWord n₃ o₃) (p₄ : PutsDecimal o₃ n₃ b s o₄) (u₄ : n₄ ≡ usedOf s n₃)
     (p₅ : Adds o₄ n₄ (10 ∷ []) n o₅) where
   short : (length (decimalOf a) ≤ 20) × (length (decimalOf b) ≤ 20)
@@ -89,14 +92,11 @@ module _ (o o₁ o₂ o₃ o₄ o₅ : List ℕ) (a b n₁ n₂ n₃ n₄ n : �
       adds-then o o₃ o₄ (listedWord ++ decimalOf a ++ strictWord) (decimalOf b) 0 n₃ n₄ (simp length-append (omega (arith, short))) three
       (decimal-added o₃ o₄ n₃ b s hb p₄ n₄ u₄)
 
-  room : length (headOf a b) ≤ 64
-  room = simp length-append (omega (arith, short))
-
   five : Adds o 0 (headOf a b) n o₅
-  five = adds-then o o₄ o₅ (listedWord ++ decimalOf a ++ strictWord ++ decimalOf b) (10 ∷ []) 0 n₄ n (omega (arith, room)) four p₅
+  five = adds-then o o₄ o₅ (listedWord ++ decimalOf a ++ strictWord ++ decimalOf b) (10 ∷ []) 0 n₄ n (omega (arith, head-short a b ha hb)) four p₅
 
   pub head-shown : Counts n o₅ × (take n o₅ ≡ headOf a b)
   head-shown =
-      let h : 0 + length (headOf a b) ≤ length o = omega (arith, room) in
+      let h : 0 + length (headOf a b) ≤ length o = omega (arith, head-short a b ha hb) in
       let w : n ≤ length o₅ = omega (arith, added-len o (headOf a b) o₅ 0 n five h, added-length o (headOf a b) o₅ 0 n five h) in
       ((w, sym (length-take-le n o₅ w)), added-bytes o (headOf a b) o₅ 0 n five h)

@@ -12,14 +12,15 @@ use Rattle.squares.specs.Members.{concat}
 use Rattle.output.specs.declared.Put.the-variants.{Count, Room}
 use Rattle.output.specs.Appending.{Puts, Adds}
 use Rattle.output.proofs.Added.{puts-none, added-len, added-length, added-puts}
-use Rattle.rows.specs.Rows.{listedRow, strictRow, rowsOf, headOf, reportOf}
+use Rattle.rows.specs.Rows.{listedRow, strictRow, rowsOf, headOf, checkersLine, reportOf}
 use Rattle.rows.proofs.Adding.{adds-as, adds-then}
 use Rattle.rows.proofs.Rows.{listed-size}
 
--- h is the head and `more` the number of strict rows
-module _ (o listed strict h : List ℕ) (len n more : ℕ) (counts : Counts n h) (head : take n h ≡ headOf (length listed) (length strict))
+-- h has the lines above the rows, and `more` is the number of strict rows
+module _ (checkers : ℕ) (o listed strict h : List ℕ) (len n more : ℕ) (counts : Counts n h)
+    (head : take n h ≡ headOf (length listed) (length strict) ++ checkersLine checkers)
     (rows : 11 * more ≡ length (concat (strictRow listed) strict)) where
-  size : length (reportOf listed strict) ≡ n + 11 * length listed + 11 * more
+  size : length (reportOf checkers listed strict) ≡ n + 11 * length listed + 11 * more
   unfolding reportOf
   size =
       omega (
@@ -27,16 +28,16 @@ module _ (o listed strict h : List ℕ) (len n more : ℕ) (counts : Counts n h)
         counts .1,
         ap length head,
         listed-size strict listed,
-        length-append (headOf (length listed) (length strict)) (rowsOf listed strict),
+        length-append (headOf (length listed) (length strict) ++ checkersLine checkers) (rowsOf listed strict),
         length-append (concat (listedRow strict) listed) (concat (strictRow listed) strict),
       )
 
   -- m is the report's size as far as a usize counts it, which is more than o has
   module _ (m : ℕ) (counted : m ≡ min (n + 11 * length listed + 11 * more) 18446744073709551615) (slice : length o < 2 ^ 63) where
-    pub no-room : leb (len + m) (length o) ≡ false → Puts o len (reportOf listed strict) (Room m) o
+    pub no-room : leb (len + m) (length o) ≡ false → Puts o len (reportOf checkers listed strict) (Room m) o
     no-room e =
-        puts-none o (reportOf listed strict) len
-        (lt-leb (len + length (reportOf listed strict)) (length o) (omega (arith, size, leb-false (len + m) (length o) e))) m
+        puts-none o (reportOf checkers listed strict) len
+        (lt-leb (len + length (reportOf checkers listed strict)) (length o) (omega (arith, size, leb-false (len + m) (length o) e))) m
         (counted ∙ ap (λ (i : ℕ). min i 18446744073709551615) (sym size))
 
     module _ (e : leb (len + m) (length o) ≡ true) (x : List ℕ) (a : ℕ) (p : Adds o len (take n h) a x) where
@@ -63,15 +64,15 @@ module _ (o listed strict h : List ℕ) (len n more : ℕ) (counts : Counts n h)
               added-length x (concat (listedRow strict) listed) y a b q listed-room,
             )
 
-        pub report-put : (z : List ℕ) (r : ℕ) → Adds y b (concat (strictRow listed) strict) r z → Puts o len (reportOf listed strict) (Count r) z
+        pub report-put : (z : List ℕ) (r : ℕ) → Adds y b (concat (strictRow listed) strict) r z → Puts o len (reportOf checkers listed strict) (Count r) z
         unfolding reportOf
         report-put z r w =
             let l = concat (listedRow strict) listed in
             let s = concat (strictRow listed) strict in
             let t = take n h in
             let two : Adds o len (t ++ l) b y = adds-then o x y t l len a b (omega (arith, room, counts .1, listed-size strict listed, length-append t l)) p q in
-            added-puts o (reportOf listed strict) z len r
-            (adds-as o z (t ++ l ++ s) (reportOf listed strict) len r
+            added-puts o (reportOf checkers listed strict) z len r
+            (adds-as o z (t ++ l ++ s) (reportOf checkers listed strict) len r
             (adds-then o y z (t ++ l) s len b r (omega (arith, room, counts .1, listed-size strict listed, length-append t l, length-append (t ++ l) s)) two w)
             (append-assoc t l s ∙ ap (λ (u : List ℕ). u ++ rowsOf listed strict) head))
             (omega (arith, room, size))

@@ -1,4 +1,4 @@
--- What is printed of the two lists of a board, document 01's "Text". A member of a list is a 16-bit slot, a packed retraction.
+-- What is printed of a board's checkers and of its two lists, document 01's "Text". A member of a list is a 16-bit slot, a packed retraction.
 use mathlib.Core.Bool.{Bool, false, cond}
 use mathlib.Core.List.{List, [], _∷_, _++_}
 use Prim.Native.Nat.{ℕ, zero, suc, _/_, _%_}
@@ -6,7 +6,7 @@ use lib.Dec.{eqb, ltb}
 use lib.ListN.{length, getD}
 use Rattle.io.specs.Digits.{glyph}
 use Rattle.squares.specs.Tests.{_or_}
-use Rattle.squares.specs.Members.{concat}
+use Rattle.squares.specs.Members.{members, concat}
 use Rattle.laws.specs.declared.ChessRetraction.{ChessRetraction}
 use Rattle.laws.specs.declared.Piece.the-variants.{Pawn, Knight, Bishop, Rook, Queen}
 use Rattle.laws.specs.Retractions.{unpacked}
@@ -74,5 +74,20 @@ strictWord = 32 ∷ 115 ∷ 116 ∷ 114 ∷ 105 ∷ 99 ∷ 116 ∷ 32 ∷ []
 abbrev pub headOf : ℕ → ℕ → List ℕ
 headOf a b = listedWord ++ decimalOf a ++ strictWord ++ decimalOf b ++ (10 ∷ [])
 
-unfoldable pub reportOf : List ℕ → List ℕ → List ℕ
-reportOf listed strict = headOf (length listed) (length strict) ++ rowsOf listed strict
+-- "squares ascending with single spaces between, or a dash": of a list of squares, and of a set
+abbrev pub spacedName : ℕ → List ℕ
+spacedName k = 32 ∷ squareName k
+
+abbrev pub squareNames : List ℕ → List ℕ
+squareNames [] = 45 ∷ []
+squareNames (k ∷ ks) = squareName k ++ concat spacedName ks
+
+unfoldable pub squaresText : ℕ → List ℕ
+squaresText s = squareNames (members s)
+
+-- "one line under `listed`, the checkers' squares"
+abbrev pub checkersLine : ℕ → List ℕ
+checkersLine checkers = squaresText checkers ++ (10 ∷ [])
+
+unfoldable pub reportOf : ℕ → List ℕ → List ℕ → List ℕ
+reportOf checkers listed strict = headOf (length listed) (length strict) ++ checkersLine checkers ++ rowsOf listed strict

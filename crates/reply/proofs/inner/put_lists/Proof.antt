@@ -34,7 +34,7 @@ enum-told : tie.Need-enum-told
 enum-told c = search needs
 
 returns : tie.Need-returns
-returns c = lists-shown (c .before .before .before .before .before .before .before .before .before .before .before .before .before .before .args .b) (now (c .before .before .before .before .before .before .before .before .before .before .before .before .before .before .args .out)) _ _ (search needs) _ _ (c .before .before .before .before .before .before .before .before .before .before .before .before .before .before .pre .0) (c .before .before .before .before .before .before .before .before .before .before .before .before .before .before .pre .1) _ _ _ _ (tells-count (c .before .before .before .before .before .before .before .before .before .before .print .ensures) _ (ap copiedSays (c .before .before .before .before .before .before .before .before .p .given .1))) (used-adds _ _ _ _ _ (c .before .before .before .before .put-bytes .ensures) _ (c .before .before .before .used .ensures)) (used-adds _ _ _ _ _ (c .before .report .ensures) _ (c .used2 .ensures))
+returns c = lists-shown (c .before .before .before .before .before .before .before .before .before .before .before .before .before .before .args .b) (now (c .before .before .before .before .before .before .before .before .before .before .before .before .before .before .args .out)) _ _ (search needs) (c .before .before .before .before .before .before .before .before .before .before .before .before .before .before .pre .0) _ _ (c .before .before .before .before .before .before .before .before .before .before .before .before .before .before .pre .1) (c .before .before .before .before .before .before .before .before .before .before .before .before .before .before .pre .2) _ _ _ _ (tells-count (c .before .before .before .before .before .before .before .before .before .before .print .ensures) _ (ap copiedSays (c .before .before .before .before .before .before .before .before .p .given .1))) (used-adds _ _ _ _ _ (c .before .before .before .before .put-bytes .ensures) _ (c .before .before .before .used .ensures)) (used-adds _ _ _ _ _ (c .before .report .ensures) _ (c .used2 .ensures))
 
 returns-2 : tie.Need-returns-2
 returns-2 c = absurd (never-room (c .before .before .before .before .before .before .args .b) (now (c .before .before .before .before .before .before .args .out)) _ _ (search needs) (tells-room (c .before .before .print .ensures) _ (ap copiedSays (c .enum-told .given .1))))

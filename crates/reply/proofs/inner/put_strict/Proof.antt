@@ -24,7 +24,7 @@ slice-aggregate-put-lists : tie.Need-slice-aggregate-put-lists
 slice-aggregate-put-lists c = let x = c .before .before .before .before .before .before .list .ensures in sym (length-take-le _ _ (written-within (listing-tells (x .moves) _ (x .into) _ (c .before .before .s .given .1))))
 
 put-lists-requires : tie.Need-put-lists-requires
-put-lists-requires c κs = let x = c .before .before .before .before .before .before .before .list .ensures in let w = listing-tells (x .moves) _ (x .into) _ (c .before .before .before .s .given .1) in ((let k = passed-room (c .before .before .before .before .before .before .before .before .before .before .before .args .b) (c .before .before .before .before .before .before .before .before .before .before .before .pre .1) in omega (arith, ap length (c .before .before .before .before .before .before .before .before .before .before .before .pre .2))), omega (arith, ap length (written-is w), w .fits, c .before .before .before .before .before .before .before .before .before .before .before .pre .3))
+put-lists-requires c κs = let x = c .before .before .before .before .before .before .before .list .ensures in let w = listing-tells (x .moves) _ (x .into) _ (c .before .before .before .s .given .1) in (passed-board (c .before .before .before .before .before .before .before .before .before .before .before .args .b) (c .before .before .before .before .before .before .before .before .before .before .before .pre .1), (let k = passed-room (c .before .before .before .before .before .before .before .before .before .before .before .args .b) (c .before .before .before .before .before .before .before .before .before .before .before .pre .1) in omega (arith, ap length (c .before .before .before .before .before .before .before .before .before .before .before .pre .2))), omega (arith, ap length (written-is w), w .fits, c .before .before .before .before .before .before .before .before .before .before .before .pre .3))
 
 enum-told : tie.Need-enum-told
 enum-told c = search needs

@@ -48,7 +48,7 @@ used-requires-5 : tie.Need-used-requires-5
 used-requires-5 c κs = search needs
 
 returns : tie.Need-returns
-returns c = head-shown (now (c .before .before .before .before .before .before .before .before .before .before .before .before .before .before .before .before .before .before .args .out)) _ _ _ _ _ (c .before .before .before .before .before .before .before .before .before .before .before .before .before .before .before .before .before .before .args .a) (c .before .before .before .before .before .before .before .before .before .before .before .before .before .before .before .before .before .before .args .b) _ _ _ _ _ _ _ (let e : length (now (c .before .before .before .before .before .before .before .before .before .before .before .before .before .before .before .before .before .before .args .out)) ≡ 64 = search needs in e) (c .before .before .before .before .before .before .before .before .before .before .before .before .before .before .before .before .before .before .fits .a .fits) (c .before .before .before .before .before .before .before .before .before .before .before .before .before .before .before .before .before .before .fits .b .fits) (used-adds _ _ _ _ _ (c .before .before .before .before .before .before .before .before .before .before .before .before .before .before .before .put-bytes .ensures) _ (c .before .before .before .before .before .before .before .before .before .before .before .before .before .before .used .ensures)) (c .before .before .before .before .before .before .before .before .before .before .before .before .put-decimal .ensures) (c .before .before .before .before .before .before .before .before .before .before .before .used2 .ensures) (used-adds _ _ _ _ _ (c .before .before .before .before .before .before .before .before .put-bytes2 .ensures) _ (c .before .before .before .before .before .before .before .used3 .ensures)) (c .before .before .before .before .before .put-decimal2 .ensures) (c .before .before .before .before .used4 .ensures) (used-adds _ _ _ _ _ (c .before .put-bytes3 .ensures) _ (c .used5 .ensures))
+returns c = head-shown (now (c .before .before .before .before .before .before .before .before .before .before .before .before .before .before .before .before .before .before .args .out)) _ _ _ _ _ (c .before .before .before .before .before .before .before .before .before .before .before .before .before .before .before .before .before .before .args .a) (c .before .before .before .before .before .before .before .before .before .before .before .before .before .before .before .before .before .before .args .b) _ _ _ _ _ _ _ (let e : length (now (c .before .before .before .before .before .before .before .before .before .before .before .before .before .before .before .before .before .before .args .out)) ≡ 256 = search needs in e) (c .before .before .before .before .before .before .before .before .before .before .before .before .before .before .before .before .before .before .fits .a .fits) (c .before .before .before .before .before .before .before .before .before .before .before .before .before .before .before .before .before .before .fits .b .fits) (used-adds _ _ _ _ _ (c .before .before .before .before .before .before .before .before .before .before .before .before .before .before .before .put-bytes .ensures) _ (c .before .before .before .before .before .before .before .before .before .before .before .before .before .before .used .ensures)) (c .before .before .before .before .before .before .before .before .before .before .before .before .put-decimal .ensures) (c .before .before .before .before .before .before .before .before .before .before .before .used2 .ensures) (used-adds _ _ _ _ _ (c .before .before .before .before .before .before .before .before .put-bytes2 .ensures) _ (c .before .before .before .before .before .before .before .used3 .ensures)) (c .before .before .before .before .before .put-decimal2 .ensures) (c .before .before .before .before .used4 .ensures) (used-adds _ _ _ _ _ (c .before .put-bytes3 .ensures) _ (c .used5 .ensures))
 
 pub put-head-spec : {M : Type 1} → statement M
 put-head-spec =
