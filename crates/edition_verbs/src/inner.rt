@@ -1,9 +1,12 @@
 // The verbs whose fields begin with an edition, `A` or `B` alone; a line that names another has none of these verbs.
 use board::RetractableBoard;
+use laws::Color;
 use laws::Edition;
+use laws::Side;
 use refusal::Verdict;
 ghost use Rattle.puts.specs.inner.Growing.{Grows};
 
+mod attacked; // attacked.rt: who attacks a square, checks, or forbids a castling
 mod lists; // lists.rt: the ported list and the strict one, put whole
 mod written; // written.rt: records read and written
 
@@ -18,6 +21,9 @@ enum Question {
     Turn,
     Read,
     Write(u16, u16),
+    Attackers(u8, Color),
+    Checkers,
+    Castling(Side),
     Nothing,
 }
 
@@ -60,7 +66,7 @@ fn in_edition(line: &[u8], at: usize, edition: Edition, out: &mut [u8; 65536]) -
     }
 }
 
-// Behind the text stand two counters, or nothing.
+// Behind the text stand two counters, a square and a colour, a side, or nothing.
 fn asked(line: &[u8], at: usize) -> Question {
     if fields::inner::starts(line, b"list\t") {
         return Question::List;
@@ -82,7 +88,7 @@ fn asked(line: &[u8], at: usize) -> Question {
             fields::inner::counter(line, full),
         );
     }
-    Question::Nothing
+    attacked::asked(line, at)
 }
 
 fn of_text(what: Question, line: &[u8], at: usize, edition: Edition, out: &mut [u8; 65536]) -> usize
@@ -107,6 +113,9 @@ fn of_board(what: Question, b: RetractableBoard, out: &mut [u8; 65536]) -> usize
         Question::StrictList => lists::put_strict(b, out),
         Question::Turn => board_field::inner::put_boarded(turning::turn(b), out),
         Question::Write(half, full) => written::put_record(b, half, full, out),
+        Question::Attackers(sq, color) => attacked::put_attackers(b.attackers(sq, color), out),
+        Question::Checkers => attacked::put_squares(out, 0, b.checkers),
+        Question::Castling(side) => attacked::put_castling(castling::attackers(b, side), out),
         Question::Read => 0,
         Question::Nothing => 0,
     }

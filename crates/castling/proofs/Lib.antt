@@ -1,0 +1,4 @@
+pub mod Castlings
+pub mod Forbidden
+pub mod Opened
+pub mod Before

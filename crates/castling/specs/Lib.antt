@@ -1,0 +1,2 @@
+pub mod Castlings
+pub mod inner
