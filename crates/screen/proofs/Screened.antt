@@ -33,12 +33,12 @@ use Rattle.reply.proofs.Shown.{shown, written-added, text-short}
 use Rattle.stepping.proofs.Ranged.{next-range}
 use Rattle.screen.specs.declared.Screen.{Screen}
 use Rattle.screen.specs.declared.Pressed.{Pressed}
-use Rattle.drawing.specs.Words.{bytes, sideName, sourceKind, wordsOf}
-use Rattle.drawing.specs.Diagrams.{drawingOf, diagramOf}
+use Rattle.words.specs.Words.{bytes, sideName, sourceKind, wordsOf}
+use Rattle.diagram.specs.Diagrams.{drawingOf, diagramOf}
 use Rattle.screen.specs.Screens.{openingOf, openingText, boardBefore, retractionText, endText, oneMore, ShownBy, Shown}
-use Rattle.drawing.proofs.Chained.{three-added, four-added, five-added}
-use Rattle.drawing.proofs.Lengths.{length-bytes, side-short, words-short}
-use Rattle.drawing.proofs.Drawn.{diagram-length}
+use Rattle.words.proofs.Chained.{three-added, four-added, five-added}
+use Rattle.words.proofs.Lengths.{length-bytes, side-short, words-short}
+use Rattle.diagram.proofs.Drawn.{diagram-length}
 
 -- a board that was made, or another where it was refused
 module _ (ts : List Test) (x b : RetractableBoard) (z : Boarded) (k : Boards ts x z) where

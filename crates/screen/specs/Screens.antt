@@ -19,8 +19,8 @@ use Rattle.retraction_gen.specs.declared.Next.the-variants.{Retraction, End}
 use Rattle.retraction_gen.specs.declared.Stepped.{Stepped}
 use Rattle.retraction_gen.specs.Cursors.{Steps}
 use Rattle.rows.specs.Rows.{decimalOf, isIn}
-use Rattle.drawing.specs.Words.{bytes, sideName, sourceKind, wordsOf}
-use Rattle.drawing.specs.Diagrams.{drawingOf, diagramOf}
+use Rattle.words.specs.Words.{bytes, sideName, sourceKind, wordsOf}
+use Rattle.diagram.specs.Diagrams.{drawingOf, diagramOf}
 use Rattle.reply.specs.Replies.{newline, refusedText, Shows}
 use Rattle.screen.specs.declared.Screen.{Screen}
 use Rattle.screen.specs.declared.Pressed.{Pressed}

@@ -1,7 +1,5 @@
 // The stepping screen: a board, and one of its last moves for each press.
 use board::RetractableBoard;
-use drawing::inner::diagram;
-use drawing::inner::words;
 use laws::ChessRetraction;
 use refusal::Verdict;
 use retraction_gen::Next;
@@ -36,11 +34,11 @@ pub fn opening(b: RetractableBoard, out: &mut [u8; 196608]) -> usize
     let p = text::print(b, out);
     match p {
         Printed::Count(n) => {
-            let a = words::put(out, n, b"\n");
-            let d = diagram::put_board(out, a, b, 64, 64);
+            let a = words::inner::put(out, n, b"\n");
+            let d = diagram::inner::put_board(out, a, b, 64, 64);
             let turn = b.turn;
-            let side = words::put_side(out, d, turn);
-            words::put(out, side, b" to move. A key shows a last move, q leaves.\n")
+            let side = words::inner::put_side(out, d, turn);
+            words::inner::put(out, side, b" to move. A key shows a last move, q leaves.\n")
         }
         Printed::Room(_) => 0,
         Printed::Refused(why) => reply::put_refused(why, out),
@@ -68,19 +66,19 @@ fn put_retraction(
 ) -> usize
     ensures { λ k. ⌜ Shows (retractionText b n r strict) k (now (out .entry)) (now (out .exit)) ⌝ }
 {
-    let a = words::put(out, 0, b"\n");
-    let w = words::put_words(out, a, n, b, r, strict);
+    let a = words::inner::put(out, 0, b"\n");
+    let w = words::inner::put_words(out, a, n, b, r, strict);
     let earlier = before(b, r);
-    diagram::put_board(out, w, earlier, r.target, r.source)
+    diagram::inner::put_board(out, w, earlier, r.target, r.source)
 }
 
 fn put_end(listed: u64, strict: u64, all: u64, out: &mut [u8; 196608]) -> usize
     ensures { λ k. ⌜ Shows (endText listed strict all) k (now (out .entry)) (now (out .exit)) ⌝ }
 {
-    let a = words::put_counted(out, 0, b"\nThe end: ", listed);
-    let b = words::put_counted(out, a, b" listed, ", strict);
-    let c = words::put_counted(out, b, b" of them strict; the strict list has ", all);
-    words::put(out, c, b".\n")
+    let a = words::inner::put_counted(out, 0, b"\nThe end: ", listed);
+    let b = words::inner::put_counted(out, a, b" listed, ", strict);
+    let c = words::inner::put_counted(out, b, b" of them strict; the strict list has ", all);
+    words::inner::put(out, c, b".\n")
 }
 
 // One more, as far as 64 bits count.

@@ -1,10 +1,10 @@
 -- `screen::opening` meets its contract.
 use native.Mathlib.Omega.{arith}
 use borrow.Author.Needs.{needs}
-use Rattle.drawing.specs.Words.{bytesIn}
+use Rattle.words.specs.Words.{bytesIn}
 use Rattle.text.proofs.Printing.{printing-tells}
 use Rattle.reply.proofs.Shown.{text-short, never-room}
-use Rattle.drawing.proofs.Chained.{ends}
+use Rattle.words.proofs.Chained.{ends}
 use Rattle.screen.proofs.Screened.{opening-shown, refusal-shown}
 use Rattle.screen.proofs.opening.Statement.{statement}
 use Rattle.screen.proofs.opening.Tie as tie

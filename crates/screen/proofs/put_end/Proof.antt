@@ -1,9 +1,9 @@
 -- `screen::put_end` meets its contract.
 use native.Mathlib.Omega.{arith}
 use borrow.Author.Needs.{needs}
-use Rattle.drawing.specs.Words.{bytesIn, bytes}
-use Rattle.drawing.proofs.Chained.{ends}
-use Rattle.drawing.proofs.Lengths.{counted-short}
+use Rattle.words.specs.Words.{bytesIn, bytes}
+use Rattle.words.proofs.Chained.{ends}
+use Rattle.words.proofs.Lengths.{counted-short}
 use Rattle.screen.proofs.Screened.{end-shown}
 use Rattle.screen.proofs.put_end.Statement.{statement}
 use Rattle.screen.proofs.put_end.Tie as tie

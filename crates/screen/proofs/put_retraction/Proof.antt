@@ -1,8 +1,8 @@
 -- `screen::put_retraction` meets its contract.
 use native.Mathlib.Omega.{arith}
 use borrow.Author.Needs.{needs}
-use Rattle.drawing.proofs.Chained.{ends}
-use Rattle.drawing.proofs.Lengths.{words-short}
+use Rattle.words.proofs.Chained.{ends}
+use Rattle.words.proofs.Lengths.{words-short}
 use Rattle.screen.proofs.Screened.{retraction-shown}
 use Rattle.screen.proofs.put_retraction.Statement.{statement}
 use Rattle.screen.proofs.put_retraction.Tie as tie

@@ -1,4 +1,0 @@
-pub mod Chained
-pub mod Lengths
-pub mod Worded
-pub mod Drawn
