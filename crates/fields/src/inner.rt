@@ -73,7 +73,7 @@ fn number_in(base: u64, line: &[u8], at: usize) -> u64 {
     let mut x = 0u64;
     let mut i = at;
     while i < line.len() {
-        let d = input::hex_digit(line[i]);
+        let d = digits::hex_digit(line[i]);
         if d >= base {
             return x;
         }

@@ -14,11 +14,12 @@ use Rattle.libc.specs.Io.{Moved}
 use Rattle.io.specs.Counts.{clamped}
 use Rattle.squares.specs.Tests.{_and_}
 use Rattle.input.specs.declared.Cursor.{Cursor}
-use Rattle.input.specs.declared.Ending.{Ending}
-use Rattle.input.specs.declared.Ending.the-variants.{Open, Newline, Over, Failed}
+use Rattle.chunks.specs.declared.Ending.{Ending}
+use Rattle.chunks.specs.declared.Ending.the-variants.{Open, Newline, Over, Failed}
 use Rattle.input.specs.declared.Step.{Step}
-use Rattle.input.specs.Reading.{stopFrom, Read, Answered, Found, foundAt, scanned, brought, readOn, unreadAt, searched, Gives}
-use Rattle.input.proofs.Cuts.{stop-within, stop-newline, stop-first}
+use Rattle.chunks.specs.Newlines.{stopFrom}
+use Rattle.input.specs.Reading.{Read, Answered, Found, foundAt, scanned, brought, readOn, unreadAt, searched, Gives}
+use Rattle.chunks.proofs.Cuts.{stop-within, stop-newline, stop-first}
 
 unread-inside : (c : Cursor) → (unreadAt c .at ≤ unreadAt c .end) × (unreadAt c .end ≤ 65536)
 unfolding _and_

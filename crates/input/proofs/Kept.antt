@@ -9,10 +9,10 @@ use lib.ListN.{length, take, drop, length-append}
 use lib.Seq.{paste, paste-zero, slice, length-slice, length-take-le, take-add, drop-at, take-all, take-length, take-take, take-append-le, take-append-add, take-append-seam, drop-append-add, drop-drop}
 use borrow.Author.Tests.{lt-ltb, le-ltb, leb-true, leb-false, ltb-true, ltb-false}
 use Rattle.squares.specs.Tests.{_or_}
-use Rattle.input.specs.declared.Part.{Part}
-use Rattle.input.specs.inner.Splitting.{stopOf, keptOf, cutOf, lineOf, Fit}
+use Rattle.chunks.specs.declared.Part.{Part}
+use Rattle.chunks.specs.inner.Splitting.{stopOf, keptOf, cutOf, lineOf, Fit}
 use Rattle.input.specs.Reading.{keptIn}
-use Rattle.input.proofs.Cuts.{stop-within}
+use Rattle.chunks.proofs.Cuts.{stop-within}
 
 -- the bytes of a line with those of a part up to its stop
 abbrev pub withPart : List ℕ → List ℕ → Part → List ℕ

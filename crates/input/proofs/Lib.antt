@@ -1,4 +1,3 @@
-pub mod Cuts
 pub mod Kept
 pub mod Searched
 pub mod Input

@@ -18,14 +18,16 @@ use Rattle.libc.specs.Io.{Moved}
 use Rattle.io.specs.Counts.{clamped}
 use Rattle.squares.specs.Tests.{_and_}
 use Rattle.input.specs.declared.Cursor.{Cursor}
-use Rattle.input.specs.declared.Part.{Part}
-use Rattle.input.specs.declared.Ending.{Ending}
-use Rattle.input.specs.declared.Ending.the-variants.{Open, Newline, Over, Failed}
+use Rattle.chunks.specs.declared.Part.{Part}
+use Rattle.chunks.specs.declared.Ending.{Ending}
+use Rattle.chunks.specs.declared.Ending.the-variants.{Open, Newline, Over, Failed}
 use Rattle.input.specs.declared.Step.{Step}
 use Rattle.input.specs.declared.Step.the-variants.{Line, End, Failed as failed}
-use Rattle.input.specs.Reading.{stopFrom, Read, Answered, Found, foundAt, scanned, brought, readOn, unreadAt, searched, stepFor, stepOf, keptIn, Gives}
-use Rattle.input.specs.inner.Splitting.{stopOf, cutOf, lineOf, Fit, Cuts, isOpen, cursorOf, openedAt, endingOf, filledOf, Turns}
-use Rattle.input.proofs.Cuts.{stop-within}
+use Rattle.chunks.specs.Newlines.{stopFrom}
+use Rattle.input.specs.Reading.{Read, Answered, Found, foundAt, scanned, brought, readOn, unreadAt, searched, stepFor, stepOf, keptIn, Gives}
+use Rattle.chunks.specs.inner.Splitting.{stopOf, cutOf, lineOf, Fit, Cuts}
+use Rattle.input.specs.inner.Parts.{isOpen, cursorOf, openedAt, endingOf, filledOf, Turns}
+use Rattle.chunks.proofs.Cuts.{stop-within, cut-fit}
 use Rattle.input.proofs.Kept.{withPart, Kept, kept-cut}
 
 abbrev flag : Bool → ℕ
@@ -103,13 +105,6 @@ module _ (w s : List ℕ) (p : Part) (qs : List Read) (fit : Fit p) where
       (scan-cut w s (filledOf p (pos (suc n)) (suc n)) qs (record { unread = omega arith; inside = m; short = fit .short }) refl)
   brought-cut (pos zero) m = sym (ap (λ (v : List ℕ). foundAt v Over s 0 0) (append-nil w))
   brought-cut (negsuc n) m = sym (ap (λ (v : List ℕ). foundAt v Failed s 0 0) (append-nil w))
-
-cut-fit : (s : List ℕ) (p : Part) → Fit p → Fit (cutOf s p)
-cut-fit s p fit = record { unread = by (ltb (stopOf s p) (p .end)) refl; inside = fit .inside; short = omega (arith, fit .short) }
-  where
-    by : (t : Bool) → ltb (stopOf s p) (p .end) ≡ t → cond t (stopOf s p + 1) (p .end) ≤ p .end
-    by true e = omega (arith, ltb-true (stopOf s p) (p .end) e)
-    by false e = omega arith
 
 filled-fit : (p : Part) → Fit p → (got : ℤ) → Fit (filledOf p got (clamped got 65536))
 filled-fit p fit got = record { unread = omega arith; inside = by got; short = fit .short }

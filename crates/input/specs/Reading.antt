@@ -3,22 +3,18 @@ use mathlib.Core.Path.{_≡_}
 use mathlib.Core.Bool.{Bool, cond}
 use mathlib.Core.List.{List, [], _∷_, _++_}
 use Prim.Native.Nat.{ℕ, zero, suc, _+_, _-_, _<_, min}
-use lib.Dec.{eqb, leb, ltb}
+use lib.Dec.{leb, ltb}
 use lib.IntN.{ℤ, pos, negsuc}
-use lib.ListN.{length, getD, take, drop}
+use lib.ListN.{length, take, drop}
 use lib.Seq.{slice}
 use Rattle.libc.specs.Io.{Moved}
 use Rattle.squares.specs.Tests.{_and_}
+use Rattle.chunks.specs.Newlines.{stopFrom}
 use Rattle.input.specs.declared.Cursor.{Cursor}
-use Rattle.input.specs.declared.Ending.{Ending}
-use Rattle.input.specs.declared.Ending.the-variants.{Open, Newline, Over, Failed}
+use Rattle.chunks.specs.declared.Ending.{Ending}
+use Rattle.chunks.specs.declared.Ending.the-variants.{Open, Newline, Over, Failed}
 use Rattle.input.specs.declared.Step.{Step}
 use Rattle.input.specs.declared.Step.the-variants.{Line, End, Failed as failed}
-
--- the place of the first newline among the n bytes from `at` on, or the place past them
-unfoldable pub stopFrom : List ℕ → ℕ → ℕ → ℕ
-stopFrom s at zero = at
-stopFrom s at (suc n) = cond (eqb (getD s at 0) 10) at (stopFrom s (suc at) n)
 
 -- a read as the system answers it: -1 where it failed, else how many bytes it put at the start of the chunk, 0 at the end of the input; and
 -- what the chunk then holds

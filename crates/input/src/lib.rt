@@ -1,13 +1,13 @@
-// The lines of standard input one after the other in bounded memory, and what a digit of one stands for.
+// The lines of standard input one after the other in bounded memory.
+use chunks::Ending;
+use chunks::Part;
 use libc::STDIN_FILENO;
 ghost use mathlib.Core.Path.{_≡_};
 ghost use Prim.Native.Nat.{_≤_};
 ghost use Rattle.input.specs.declared.Step.the-variants.{Line};
-ghost use Rattle.input.specs.inner.Splitting.{Fit, isOpen, cursorOf, openedAt, endingOf, filledOf, Turns};
+ghost use Rattle.chunks.specs.inner.Splitting.{Fit};
+ghost use Rattle.input.specs.inner.Parts.{isOpen, cursorOf, openedAt, endingOf, filledOf, Turns};
 ghost use Rattle.input.specs.Reading.{unreadAt, stepFor, Gives};
-ghost use Rattle.input.specs.Digits.{hexDigit};
-
-pub mod inner; // inner.rt: a line cut out of what was read
 
 // The bytes at..end of what was read are unread.
 pub struct Cursor {
@@ -26,23 +26,6 @@ pub enum Step {
     Failed,
 }
 
-// How the bytes of a line end: not yet, at a newline, at the end of the input, or at a read that failed.
-pub enum Ending {
-    Open,
-    Newline,
-    Over,
-    Failed,
-}
-
-// A line on its way into the line's buffer, and the unread bytes behind it.
-pub struct Part {
-    pub at: usize,
-    pub end: usize,
-    pub len: usize,
-    pub long: bool,
-    pub ending: Ending,
-}
-
 // Nothing is read yet.
 pub fn start() -> Cursor
     ensures { λ r. ⌜ (r .at ≡ 0) × (r .end ≡ 0) ⌝ }
@@ -54,7 +37,7 @@ pub fn start() -> Cursor
 pub fn next(chunk: &mut [u8; 65536], line: &mut [u8; 65536], c: Cursor) -> Step
     ensures { λ r. ⌜ Gives (now (chunk .entry)) (now (line .entry)) c r (now (chunk .exit)) (now (line .exit)) ⌝ }
 {
-    let mut p = inner::cut(chunk, line, opened(c));
+    let mut p = chunks::inner::cut(chunk, line, opened(c));
     let mut turns = u64::MAX;
     while turns > 0 && is_open(p) {
         p = turn(chunk, line, p);
@@ -109,7 +92,7 @@ fn turn(chunk: &mut [u8; 65536], line: &mut [u8; 65536], p: Part) -> Part
 {
     let got = libc::read(STDIN_FILENO, chunk);
     let n = io::count(got, chunk);
-    inner::cut(chunk, line, filled(p, got, n))
+    chunks::inner::cut(chunk, line, filled(p, got, n))
 }
 
 // After a read that answered `got`, n bytes.
@@ -161,16 +144,5 @@ fn line_of(p: Part) -> Step
             at: p.at,
             end: p.end,
         },
-    }
-}
-
-// What a hexadecimal digit stands for, 16 for any other byte.
-pub fn hex_digit(b: u8) -> u64
-    ensures { λ r. ⌜ r ≡ hexDigit b ⌝ }
-{
-    match b {
-        b'0'..=b'9' => (b - b'0') as u64,
-        b'a'..=b'f' => (b - b'a') as u64 + 10,
-        _ => 16,
     }
 }

@@ -50,7 +50,7 @@ fn set_of(line: &[u8; 17]) -> Line {
     }
     let mut set = 0u64;
     for i in 0usize..16 {
-        let d = input::hex_digit(line[i]);
+        let d = digits::hex_digit(line[i]);
         if d > 15 {
             return Line::Malformed;
         }

@@ -1,8 +1,8 @@
 -- `input::filled` meets its contract.
 use mathlib.Core.Path.{ap, _∙_}
 use borrow.Author.Needs.{needs}
-use Rattle.input.specs.inner.Splitting.{endingOf}
-use Rattle.input.specs.declared.Ending.{Ending}
+use Rattle.input.specs.inner.Parts.{endingOf}
+use Rattle.chunks.specs.declared.Ending.{Ending}
 use Rattle.input.proofs.filled.Statement.{statement}
 use Rattle.input.proofs.filled.Tie as tie
 use mir.Facts.{toZ-ofZ}

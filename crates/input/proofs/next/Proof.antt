@@ -8,7 +8,7 @@ use borrow.Author.Needs.{needs}
 use denote.Ref.{now}
 use Rattle.input.proofs.Searched.{Going, going-first, going-on, open-is, ended-is, turn-fit, gives}
 use Rattle.input.specs.declared.Cursor.{Cursor}
-use Rattle.input.specs.inner.Splitting.{Fit}
+use Rattle.chunks.specs.inner.Splitting.{Fit}
 use Rattle.input.proofs.next.Statement.{statement}
 use Rattle.input.proofs.next.Tie as tie
 

@@ -1,7 +1,7 @@
 -- `input::opened` meets its contract.
 use mathlib.Core.Path.{ap}
 use borrow.Author.Needs.{needs}
-use Rattle.input.specs.inner.Splitting.{openedAt}
+use Rattle.input.specs.inner.Parts.{openedAt}
 use Rattle.input.proofs.opened.Statement.{statement}
 use Rattle.input.proofs.opened.Tie as tie
 

@@ -2,8 +2,8 @@
 use mathlib.Core.Path.{_∙_, sym, ap}
 use borrow.Author.Tests.{lt-ltb, le-ltb}
 use borrow.Author.Needs.{needs}
-use Rattle.input.specs.declared.Ending.{Ending}
-use Rattle.input.specs.inner.Splitting.{cursorOf}
+use Rattle.chunks.specs.declared.Ending.{Ending}
+use Rattle.input.specs.inner.Parts.{cursorOf}
 use Rattle.input.specs.Reading.{stepFor}
 use Rattle.input.proofs.step_of.Statement.{statement}
 use Rattle.input.proofs.step_of.Tie as tie

@@ -5,9 +5,9 @@ ghost use mathlib.Core.Path.{_≡_};
 ghost use mathlib.Core.Bool.{cond};
 ghost use Prim.Native.Nat.{_+_, _-_, _≤_, min};
 ghost use lib.Dec.{ltb};
-ghost use Rattle.input.specs.declared.Ending.the-variants.{Newline};
-ghost use Rattle.input.specs.Reading.{stopFrom};
-ghost use Rattle.input.specs.inner.Splitting.{Fit, Cuts};
+ghost use Rattle.chunks.specs.declared.Ending.the-variants.{Newline};
+ghost use Rattle.chunks.specs.Newlines.{stopFrom};
+ghost use Rattle.chunks.specs.inner.Splitting.{Fit, Cuts};
 
 // The place of the first newline from `at` on, or `end`.
 fn find(s: &[u8; 65536], at: usize, end: usize) -> usize

@@ -11,11 +11,11 @@ use lib.ListN.{getD, drop}
 use lib.Seq.{paste}
 use borrow.Author.Tests.{eq-eqb, ne-eqb, eqb-true, eqb-false, ltb-true, ltb-false}
 use Rattle.squares.specs.Tests.{_or_}
-use Rattle.input.specs.declared.Part.{Part}
-use Rattle.input.specs.declared.Ending.{Ending}
-use Rattle.input.specs.declared.Ending.the-variants.{Newline}
-use Rattle.input.specs.Reading.{stopFrom}
-use Rattle.input.specs.inner.Splitting.{stopOf, keptOf, cutOf, lineOf}
+use Rattle.chunks.specs.declared.Part.{Part}
+use Rattle.chunks.specs.declared.Ending.{Ending}
+use Rattle.chunks.specs.declared.Ending.the-variants.{Newline}
+use Rattle.chunks.specs.Newlines.{stopFrom}
+use Rattle.chunks.specs.inner.Splitting.{stopOf, keptOf, cutOf, lineOf, Fit}
 
 -- the search stands on a newline, or goes on past another byte, or is at its end
 module _ (s : List ℕ) (i end : ℕ) where
@@ -57,6 +57,14 @@ module _ (s l x : List ℕ) (p : Part) (stop n at : ℕ) (ending : Ending) (e : 
 
   pub line-is : x ≡ paste l (p .len) (drop (p .at) s) n → x ≡ lineOf s p l
   line-is h = h ∙ ap (paste l (p .len) (drop (p .at) s)) kept-is
+
+-- what is left fits again
+pub cut-fit : (s : List ℕ) (p : Part) → Fit p → Fit (cutOf s p)
+cut-fit s p fit = record { unread = by (ltb (stopOf s p) (p .end)) refl; inside = fit .inside; short = omega (arith, fit .short) }
+  where
+    by : (t : Bool) → ltb (stopOf s p) (p .end) ≡ t → cond t (stopOf s p + 1) (p .end) ≤ p .end
+    by true e = omega (arith, ltb-true (stopOf s p) (p .end) e)
+    by false e = omega arith
 
 -- where the search stops: among the bytes or past them, on a newline where it is among them, and on the first
 pub stop-within : (s : List ℕ) (at n : ℕ) → (at ≤ stopFrom s at n) × (stopFrom s at n ≤ at + n)

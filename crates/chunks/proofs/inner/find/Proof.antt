@@ -1,12 +1,12 @@
--- `input::inner::find` meets its contract.
+-- `chunks::inner::find` meets its contract.
 use mathlib.Core.Path.{_≡_, refl, _∙_, sym}
 use Prim.Native.Nat.{_-_, _≤_}
 use native.Mathlib.Omega.{arith}
-use Rattle.input.specs.Reading.{stopFrom}
+use Rattle.chunks.specs.Newlines.{stopFrom}
 use denote.Ref.{now}
-use Rattle.input.proofs.Cuts.{stop-here, stop-later, stop-end}
-use Rattle.input.proofs.inner.find.Statement.{statement}
-use Rattle.input.proofs.inner.find.Tie as tie
+use Rattle.chunks.proofs.Cuts.{stop-here, stop-later, stop-end}
+use Rattle.chunks.proofs.inner.find.Statement.{statement}
+use Rattle.chunks.proofs.inner.find.Tie as tie
 
 abbrev Inv-loop : tie.InvT-loop
 Inv-loop s at end i₀ i = (at ≤ i) × (i ≤ end) × (stopFrom s at (end - at) ≡ stopFrom s i (end - i))

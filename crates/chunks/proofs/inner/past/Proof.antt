@@ -1,9 +1,9 @@
--- `input::inner::past` meets its contract.
+-- `chunks::inner::past` meets its contract.
 use native.Mathlib.Omega.{arith}
 use borrow.Author.Tests.{lt-ltb, le-ltb}
 use borrow.Author.Needs.{needs}
-use Rattle.input.proofs.inner.past.Statement.{statement}
-use Rattle.input.proofs.inner.past.Tie as tie
+use Rattle.chunks.proofs.inner.past.Statement.{statement}
+use Rattle.chunks.proofs.inner.past.Tie as tie
 
 add-result : tie.Need-add-result
 add-result c = search needs

@@ -1,7 +1,7 @@
--- `input::inner::ending_at` meets its contract.
+-- `chunks::inner::ending_at` meets its contract.
 use borrow.Author.Tests.{lt-ltb, le-ltb}
-use Rattle.input.proofs.inner.ending_at.Statement.{statement}
-use Rattle.input.proofs.inner.ending_at.Tie as tie
+use Rattle.chunks.proofs.inner.ending_at.Statement.{statement}
+use Rattle.chunks.proofs.inner.ending_at.Tie as tie
 
 returns : tie.Need-returns
 returns c = simp (lt-ltb _ _ (c .if1 .taken))

@@ -1,10 +1,10 @@
--- `input::inner::cut` meets its contract.
+-- `chunks::inner::cut` meets its contract.
 use native.Mathlib.Omega.{arith}
 use borrow.Author.Needs.{needs}
 use denote.Ref.{now}
-use Rattle.input.proofs.Cuts.{cut-is, line-is}
-use Rattle.input.proofs.inner.cut.Statement.{statement}
-use Rattle.input.proofs.inner.cut.Tie as tie
+use Rattle.chunks.proofs.Cuts.{cut-is, line-is}
+use Rattle.chunks.proofs.inner.cut.Statement.{statement}
+use Rattle.chunks.proofs.inner.cut.Tie as tie
 
 find-requires : tie.Need-find-requires
 find-requires c κs = search needs

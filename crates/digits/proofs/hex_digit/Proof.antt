@@ -1,12 +1,12 @@
--- `input::hex_digit` meets its contract.
+-- `digits::hex_digit` meets its contract.
 use mathlib.Core.Path.{refl}
 use native.Mathlib.Omega.{arith}
 use borrow.Author.Needs.{needs}
 use borrow.Author.Tests.{le-leb, lt-leb}
 use Rattle.squares.specs.Tests.{_and_}
-use Rattle.input.specs.Digits.{hexDigit}
-use Rattle.input.proofs.hex_digit.Statement.{statement}
-use Rattle.input.proofs.hex_digit.Tie as tie
+use Rattle.digits.specs.Digits.{hexDigit}
+use Rattle.digits.proofs.hex_digit.Statement.{statement}
+use Rattle.digits.proofs.hex_digit.Tie as tie
 
 cast-result : tie.Need-cast-result
 cast-result c = search needs
