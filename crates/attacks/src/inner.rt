@@ -35,9 +35,9 @@ pub fn attackers(pieces: [u64; 6], colors: [u64; 2], sq: u8, color: Color) -> u6
     let occ = men::inner::occupied(pieces, colors);
     let diagonal = sliding::inner::get_bishop_moves(sq, occ);
     let straight = sliding::inner::get_rook_moves(sq, occ);
-    let pawn = tables::inner::get_pawn_attacks(geometry::other(color), sq);
-    let knight = tables::inner::get_knight_moves(sq);
-    let king = tables::inner::get_king_moves(sq);
+    let pawn = steps::inner::get_pawn_attacks(geometry::other(color), sq);
+    let knight = steps::inner::get_knight_moves(sq);
+    let king = steps::inner::get_king_moves(sq);
     met(pieces, colors[c], pawn, knight, diagonal, straight, king)
 }
 

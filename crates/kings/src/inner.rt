@@ -25,8 +25,8 @@ fn steps(t: &[u64; 4096], v: View, n: u32) -> u64
     requires { ⌜ Ready (now t) v ⌝ }
     ensures { λ r. ⌜ r ≡ stepsOf v n ⌝ }
 {
-    let here = tables::inner::get_king_moves(v.king);
-    let there = tables::inner::get_king_moves(v.oppking);
+    let here = steps::inner::get_king_moves(v.king);
+    let there = steps::inner::get_king_moves(v.oppking);
     let targets = (here & v.mask) & !(there & v.mask) & !v.combined;
     if n == 1 {
         let checker = view::inner::to_square(v.checkers);

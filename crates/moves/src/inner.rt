@@ -75,10 +75,10 @@ fn pawn_moves(t: &[u64; 4096], p: Position, c: Color, from: u8, to: u8, u: u8) -
     ensures { λ r. ⌜ r ≡ movesFor (menIn p) (man c Pawn) from to u ⌝ }
 {
     if u != 0 {
-        return squares::has(tables::inner::get_pawn_attacks(c, from), to);
+        return squares::has(steps::inner::get_pawn_attacks(c, from), to);
     }
-    let one = squares::has(tables::inner::pawn_step(c, from), to);
-    let two = squares::has(tables::inner::pawn_double(c, from), to);
+    let one = squares::has(steps::inner::pawn_step(c, from), to);
+    let two = squares::has(steps::inner::pawn_double(c, from), to);
     let path = is_free(t, p, from, to);
     one | (two & path)
 }
@@ -104,10 +104,10 @@ pub fn man_moves(t: &[u64; 4096], p: Position, x: u8, from: u8, to: u8, u: u8) -
         return pawn_moves(t, p, c, from, to, u);
     }
     if k == 2 {
-        return squares::has(tables::inner::get_knight_moves(from), to);
+        return squares::has(steps::inner::get_knight_moves(from), to);
     }
     if k == 6 {
-        return squares::has(tables::inner::get_king_moves(from), to);
+        return squares::has(steps::inner::get_king_moves(from), to);
     }
     slides_to(t, p, k, from, to)
 }
@@ -128,7 +128,7 @@ fn takes_passant(p: Position, from: u8, to: u8) -> bool
     ensures { λ r. ⌜ r ≡ (pawnTakes (p .turn) from to and isNamed (p .passant) (behind (p .turn) to)) ⌝ }
 {
     let c = p.turn;
-    if !squares::has(tables::inner::get_pawn_attacks(c, from), to) {
+    if !squares::has(steps::inner::get_pawn_attacks(c, from), to) {
         return false;
     }
     let state = p.passant;

@@ -14,7 +14,7 @@ fn moves(kind: usize, sq: u8, occ: u64) -> u64
     ensures { λ r. ⌜ r ≡ movesOf kind sq occ ⌝ }
 {
     if kind == 1 {
-        return tables::inner::get_knight_moves(sq);
+        return steps::inner::get_knight_moves(sq);
     }
     if kind == 2 {
         return sliding::inner::get_bishop_moves(sq, occ);

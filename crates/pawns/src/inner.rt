@@ -118,7 +118,7 @@ fn uncapture(v: View, ray: u64, src: u8) -> u64
 {
     let color = v.color;
     let other = geometry::other(color);
-    let to = tables::inner::get_pawn_attacks(other, src);
+    let to = steps::inner::get_pawn_attacks(other, src);
     let free = home(v, ray);
     to & free
 }

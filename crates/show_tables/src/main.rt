@@ -61,19 +61,19 @@ fn show_squares() {
 fn show_square(a: u8)
     requires { ⌜ a < 64 ⌝ }
 {
-    show(b"knight ", a, tables::inner::get_knight_moves(a));
-    show(b"king ", a, tables::inner::get_king_moves(a));
+    show(b"knight ", a, steps::inner::get_knight_moves(a));
+    show(b"king ", a, steps::inner::get_king_moves(a));
     show(b"rookrays ", a, sliding::inner::get_rook_moves(a, 0));
     show(b"bishoprays ", a, sliding::inner::get_bishop_moves(a, 0));
     show(
         b"pawnw ",
         a,
-        tables::inner::get_pawn_attacks(Color::White, a),
+        steps::inner::get_pawn_attacks(Color::White, a),
     );
     show(
         b"pawnb ",
         a,
-        tables::inner::get_pawn_attacks(Color::Black, a),
+        steps::inner::get_pawn_attacks(Color::Black, a),
     );
 }
 

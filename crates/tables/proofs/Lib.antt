@@ -1,5 +1,4 @@
 pub mod Entries
 pub mod BetweenRule
 pub mod Paths
-pub mod Steps
 pub mod OneTable

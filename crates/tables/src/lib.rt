@@ -1,7 +1,7 @@
-// The table of squares between, and the steps of men that do not slide, which the Rust takes from the crate `chess`.
+// The table of squares between, which the Rust takes from the crate `chess`.
 ghost use Rattle.geometry.specs.Lines.{IsBetween};
 
-pub mod inner; // inner.rt: squares between, read from the lent table, and steps by masks and shifts
+pub mod inner; // inner.rt: squares between, read from the lent table
 
 // The squares strictly between each two squares: those between a and b at 64 a + b. The built code makes the table anew at each call, so
 // an entry calls this once and lends the table down.

@@ -17,7 +17,7 @@ pub fn vacant(v: View) -> u64
 {
     let color = v.color;
     let other = geometry::other(color);
-    let check_mask = tables::inner::get_pawn_attacks(other, v.oppking);
+    let check_mask = steps::inner::get_pawn_attacks(other, v.oppking);
     !v.combined & !check_mask
 }
 

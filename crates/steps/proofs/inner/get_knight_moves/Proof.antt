@@ -1,8 +1,8 @@
--- `tables::inner::get_knight_moves` meets its contract.
+-- `steps::inner::get_knight_moves` meets its contract.
 use borrow.Author.Needs.{needs}
-use Rattle.tables.proofs.Steps.{leaps-are}
-use Rattle.tables.proofs.inner.get_knight_moves.Statement.{statement}
-use Rattle.tables.proofs.inner.get_knight_moves.Tie as tie
+use Rattle.steps.proofs.Steps.{leaps-are}
+use Rattle.steps.proofs.inner.get_knight_moves.Statement.{statement}
+use Rattle.steps.proofs.inner.get_knight_moves.Tie as tie
 
 bit-requires : tie.Need-bit-requires
 bit-requires c κs = search needs

@@ -1,8 +1,8 @@
--- `tables::inner::get_king_moves` meets its contract.
+-- `steps::inner::get_king_moves` meets its contract.
 use borrow.Author.Needs.{needs}
-use Rattle.tables.proofs.Steps.{ring-is}
-use Rattle.tables.proofs.inner.get_king_moves.Statement.{statement}
-use Rattle.tables.proofs.inner.get_king_moves.Tie as tie
+use Rattle.steps.proofs.Steps.{ring-is}
+use Rattle.steps.proofs.inner.get_king_moves.Statement.{statement}
+use Rattle.steps.proofs.inner.get_king_moves.Tie as tie
 
 bit-requires : tie.Need-bit-requires
 bit-requires c κs = search needs

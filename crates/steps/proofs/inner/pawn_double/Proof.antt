@@ -1,8 +1,8 @@
--- `tables::inner::pawn_double` meets its contract.
+-- `steps::inner::pawn_double` meets its contract.
 use borrow.Author.Needs.{needs}
-use Rattle.tables.proofs.Steps.{double-is}
-use Rattle.tables.proofs.inner.pawn_double.Statement.{statement}
-use Rattle.tables.proofs.inner.pawn_double.Tie as tie
+use Rattle.steps.proofs.Steps.{double-is}
+use Rattle.steps.proofs.inner.pawn_double.Statement.{statement}
+use Rattle.steps.proofs.inner.pawn_double.Tie as tie
 
 bit-requires : tie.Need-bit-requires
 bit-requires c κs = search needs

@@ -1,7 +1,7 @@
--- `tables::inner::forward` meets its contract.
+-- `steps::inner::forward` meets its contract.
 use borrow.Author.Needs.{needs}
-use Rattle.tables.proofs.inner.forward.Statement.{statement}
-use Rattle.tables.proofs.inner.forward.Tie as tie
+use Rattle.steps.proofs.inner.forward.Statement.{statement}
+use Rattle.steps.proofs.inner.forward.Tie as tie
 
 enum-told : tie.Need-enum-told
 enum-told c = search needs

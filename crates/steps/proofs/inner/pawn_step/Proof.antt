@@ -1,8 +1,8 @@
--- `tables::inner::pawn_step` meets its contract.
+-- `steps::inner::pawn_step` meets its contract.
 use borrow.Author.Needs.{needs}
-use Rattle.tables.proofs.Steps.{step-is}
-use Rattle.tables.proofs.inner.pawn_step.Statement.{statement}
-use Rattle.tables.proofs.inner.pawn_step.Tie as tie
+use Rattle.steps.proofs.Steps.{step-is}
+use Rattle.steps.proofs.inner.pawn_step.Statement.{statement}
+use Rattle.steps.proofs.inner.pawn_step.Tie as tie
 
 bit-requires : tie.Need-bit-requires
 bit-requires c κs = search needs

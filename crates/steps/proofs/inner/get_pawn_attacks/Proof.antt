@@ -1,8 +1,8 @@
--- `tables::inner::get_pawn_attacks` meets its contract.
+-- `steps::inner::get_pawn_attacks` meets its contract.
 use borrow.Author.Needs.{needs}
-use Rattle.tables.proofs.Steps.{attacks-are}
-use Rattle.tables.proofs.inner.get_pawn_attacks.Statement.{statement}
-use Rattle.tables.proofs.inner.get_pawn_attacks.Tie as tie
+use Rattle.steps.proofs.Steps.{attacks-are}
+use Rattle.steps.proofs.inner.get_pawn_attacks.Statement.{statement}
+use Rattle.steps.proofs.inner.get_pawn_attacks.Tie as tie
 
 bit-requires : tie.Need-bit-requires
 bit-requires c κs = search needs
