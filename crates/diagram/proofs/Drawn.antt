@@ -16,7 +16,8 @@ use Rattle.laws.specs.Men.{Man, empty, man}
 use Rattle.laws.proofs.Cases.{by-kinds}
 use Rattle.men_field.specs.Placement.{kindLetter, byteOf}
 use Rattle.output.specs.Appending.{Adds}
-use Rattle.rows.proofs.Adding.{adds-as, adds-next}
+use Rattle.output.proofs.Adding.{adds-as}
+use Rattle.rows.proofs.Adding.{adds-next}
 use Rattle.diagram.specs.declared.Drawing.{Drawing}
 use Rattle.words.specs.Words.{bytes, bytesIn}
 use Rattle.words.proofs.Chained.{ends}

@@ -12,7 +12,7 @@ use Rattle.refusal.proofs.Writing.{no-value, no-room, tells-count}
 use Rattle.board.specs.declared.RetractableBoard.{RetractableBoard}
 use Rattle.board.specs.Gate.{positionOn}
 use Rattle.output.specs.Appending.{Adds}
-use Rattle.rows.proofs.Adding.{adds-then}
+use Rattle.output.proofs.Adding.{adds-then}
 use Rattle.rows.proofs.Decimals.{number-short}
 use Rattle.records.specs.declared.Why.{Why}
 use Rattle.records.specs.declared.Written.{Written}

@@ -30,7 +30,7 @@ use Rattle.output.specs.declared.Put.the-variants.{Count, Room}
 use Rattle.output.specs.Appending.{putSays, usedOf, Puts, PutsDecimal, Adds}
 use Rattle.output.proofs.Added.{added-len, added-bytes, added-length}
 use Rattle.rows.specs.Rows.{decimalOf}
-use Rattle.rows.proofs.Adding.{adds-then}
+use Rattle.output.proofs.Adding.{adds-then}
 use Rattle.rows.proofs.Decimals.{few-digits, decimal-added}
 use Rattle.records.specs.declared.Why.the-variants.{Base, Unknown}
 use Rattle.records.specs.declared.Written.the-variants.{Count as count, Room as room, Refused as notWritten}

@@ -25,7 +25,7 @@ use Rattle.board.proofs.Passing.{gate-passed}
 use Rattle.board.proofs.Numbers.{gate-passes}
 use Rattle.text.proofs.Tails.{print-short}
 use Rattle.output.proofs.Added.{adds, added-len, added-out, added-length}
-use Rattle.rows.proofs.Adding.{adds-then}
+use Rattle.output.proofs.Adding.{adds-then}
 use Rattle.rows.proofs.Decimals.{number-short, decimal-added}
 use Rattle.reply.proofs.Sizes.{report-short}
 

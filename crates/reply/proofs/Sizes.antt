@@ -5,10 +5,11 @@ use Prim.Native.Nat.{ℕ, suc, _+_, _*_, _≤_}
 use native.Mathlib.Omega.{arith}
 use lib.ListN.{length, length-append}
 use Rattle.squares.specs.Members.{concat}
-use Rattle.rows.specs.Rows.{decimalOf, rowOf, star, isIn, listedRow, strictRow, rowsOf, listedWord, strictWord, headOf, squaresText, checkersLine, reportOf}
+use Rattle.square_names.specs.Names.{squaresText}
+use Rattle.rows.specs.Rows.{decimalOf, rowOf, star, isIn, listedRow, strictRow, rowsOf, listedWord, strictWord, headOf, checkersLine, reportOf}
 use Rattle.rows.proofs.Decimals.{few-digits}
 use Rattle.rows.proofs.Rows.{listed-size}
-use Rattle.rows.proofs.Squares.{squares-short}
+use Rattle.square_names.proofs.Squares.{squares-short}
 
 four-digits : (x : ℕ) → x ≤ 8192 → length (decimalOf x) ≤ 4
 four-digits x h = few-digits 3 (suc x) x (omega arith)

@@ -15,7 +15,7 @@ use Rattle.output.specs.declared.Put.{Put}
 use Rattle.output.specs.Appending.{usedOf, Puts, PutsDecimal, Adds}
 use Rattle.output.proofs.Added.{used-adds, added-len, added-bytes, added-length, fewest-one}
 use Rattle.rows.specs.Rows.{decimalIn, decimalOf, listedWord, strictWord, headOf}
-use Rattle.rows.proofs.Adding.{adds-then}
+use Rattle.output.proofs.Adding.{adds-then}
 
 -- a number of two digits or more, without its last
 fewer : (x k : ℕ) → 10 ≤ x → Fewest 10 1 x (suc (suc k)) → Fewest 10 1 (x / 10) (suc k)

@@ -5,7 +5,8 @@ use Prim.Native.Nat.{ℕ, _+_, _^_}
 use Rattle.squares.specs.Tests.{_or_}
 use Rattle.squares.specs.Squares.{has}
 use Rattle.squares.specs.Members.{listTo, members, concat}
-use Rattle.rows.specs.Rows.{decimalIn, decimalOf, uncapturedLetter, isIn, squaresText, reportOf}
+use Rattle.square_names.specs.Names.{squaresText}
+use Rattle.rows.specs.Rows.{decimalIn, decimalOf, uncapturedLetter, isIn, reportOf}
 
 -- the rook on e1 and the pawn on d6
 abbrev pub checkers : ℕ

@@ -1,6 +1,6 @@
 pub mod Adding
 pub mod Decimals
 pub mod Rows
-pub mod Squares
+pub mod Top
 pub mod Whole
 pub mod Example

@@ -13,7 +13,7 @@ use Rattle.output.specs.declared.Put.the-variants.{Count, Room}
 use Rattle.output.specs.Appending.{Puts, Adds}
 use Rattle.output.proofs.Added.{puts-none, added-len, added-length, added-puts}
 use Rattle.rows.specs.Rows.{listedRow, strictRow, rowsOf, headOf, checkersLine, reportOf}
-use Rattle.rows.proofs.Adding.{adds-as, adds-then}
+use Rattle.output.proofs.Adding.{adds-as, adds-then}
 use Rattle.rows.proofs.Rows.{listed-size}
 
 -- h has the lines above the rows, and `more` is the number of strict rows

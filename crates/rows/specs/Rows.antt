@@ -6,11 +6,12 @@ use lib.Dec.{eqb, ltb}
 use lib.ListN.{length, getD}
 use Rattle.io.specs.Digits.{glyph}
 use Rattle.squares.specs.Tests.{_or_}
-use Rattle.squares.specs.Members.{members, concat}
+use Rattle.squares.specs.Members.{concat}
 use Rattle.laws.specs.declared.ChessRetraction.{ChessRetraction}
 use Rattle.laws.specs.declared.Piece.the-variants.{Pawn, Knight, Bishop, Rook, Queen}
 use Rattle.laws.specs.Retractions.{unpacked}
 use Rattle.men_field.specs.Placement.{kindLetter, squareName}
+use Rattle.square_names.specs.Names.{squaresText}
 
 -- the digits of x with n steps to find them
 unfoldable pub decimalIn : ℕ → ℕ → List ℕ
@@ -73,17 +74,6 @@ strictWord = 32 ∷ 115 ∷ 116 ∷ 114 ∷ 105 ∷ 99 ∷ 116 ∷ 32 ∷ []
 -- "`listed A strict B`, the numbers of retractions in each"
 abbrev pub headOf : ℕ → ℕ → List ℕ
 headOf a b = listedWord ++ decimalOf a ++ strictWord ++ decimalOf b ++ (10 ∷ [])
-
--- "squares ascending with single spaces between, or a dash": of a list of squares, and of a set
-abbrev pub spacedName : ℕ → List ℕ
-spacedName k = 32 ∷ squareName k
-
-abbrev pub squareNames : List ℕ → List ℕ
-squareNames [] = 45 ∷ []
-squareNames (k ∷ ks) = squareName k ++ concat spacedName ks
-
-unfoldable pub squaresText : ℕ → List ℕ
-squaresText s = squareNames (members s)
 
 -- "one line under `listed`, the checkers' squares"
 abbrev pub checkersLine : ℕ → List ℕ

@@ -6,9 +6,8 @@ ghost use Prim.Native.Nat.{_+_, _*_, _≤_, min};
 ghost use lib.ListN.{length, take};
 ghost use Rattle.io.specs.Counts.{Counts};
 ghost use Rattle.output.specs.Appending.{Adds};
-ghost use Rattle.squares.specs.Members.{members, concat};
-ghost use Rattle.men_field.specs.Placement.{squareName};
-ghost use Rattle.rows.specs.Rows.{uncapturedLetter, markByte, rowOf, isIn, listedRow, strictRow, headOf, spacedName, squaresText, checkersLine};
+ghost use Rattle.squares.specs.Members.{concat};
+ghost use Rattle.rows.specs.Rows.{uncapturedLetter, markByte, rowOf, isIn, listedRow, strictRow, headOf, checkersLine};
 
 pub fn contains(slots: &[u16], slot: u16) -> bool
     ensures { λ r. ⌜ r ≡ isIn slot (now (slots .entry)) ⌝ }
@@ -153,55 +152,12 @@ fn put_head(out: &mut [u8; 256], a: u64, b: u64) -> usize
     output::put_bytes(out, second, b"\n").used(second)
 }
 
-fn name(square: u8) -> [u8; 2]
-    ensures { λ r. ⌜ r ≡ squareName square ⌝ }
-{
-    [b'a' + square % 8, b'1' + square / 8]
-}
-
-// A square's name behind a space.
-fn put_spaced(out: &mut [u8], len: usize, square: u8) -> usize
-    ensures { λ r. ⌜ Adds (now (out .entry)) len (spacedName square) r (now (out .exit)) ⌝ }
-{
-    let bytes = [b' ', b'a' + square % 8, b'1' + square / 8];
-    output::put_bytes(out, len, &bytes).used(len)
-}
-
-// Each square of a set, the lowest first, behind a space.
-fn put_all_spaced(out: &mut [u8], len: usize, set: u64) -> usize
-    requires { ⌜ len + length (concat spacedName (members set)) ≤ length (now out) ⌝ }
-    ensures { λ r. ⌜ Adds (now (out .entry)) len (concat spacedName (members set)) r (now (out .exit)) ⌝ }
-{
-    let mut at = len;
-    let mut left = set;
-    while left != 0 {
-        let k = squares::lowest(left);
-        at = put_spaced(out, at, k);
-        left = squares::without(left, k);
-    }
-    at
-}
-
-// The squares of a set, the lowest first, with single spaces between, or a dash. 64 squares have 191 bytes.
-pub fn put_squares(out: &mut [u8], len: usize, set: u64) -> usize
-    requires { ⌜ len + 191 ≤ length (now out) ⌝ }
-    ensures { λ r. ⌜ Adds (now (out .entry)) len (squaresText set) r (now (out .exit)) ⌝ }
-{
-    if set == 0 {
-        return output::put_bytes(out, len, b"-").used(len);
-    }
-    let first = squares::lowest(set);
-    let bytes = name(first);
-    let at = output::put_bytes(out, len, &bytes).used(len);
-    put_all_spaced(out, at, squares::without(set, first))
-}
-
 // `listed A strict B` and under it the checkers' line, which 256 bytes hold.
 pub fn put_top(out: &mut [u8; 256], a: u64, b: u64, checkers: u64) -> usize
     ensures { λ r. ⌜ Counts r (now (out .exit)) × (take r (now (out .exit)) ≡ headOf a b ++ checkersLine checkers) ⌝ }
 {
     let head = put_head(out, a, b);
-    let end = put_squares(out, head, checkers);
+    let end = square_names::inner::put_squares(out, head, checkers);
     output::put_bytes(out, end, b"\n").used(end)
 }
 

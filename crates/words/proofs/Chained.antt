@@ -7,7 +7,7 @@ use native.Mathlib.Omega.{arith}
 use lib.Dec.{leb}
 use lib.ListN.{length, length-append}
 use Rattle.output.specs.Appending.{Adds}
-use Rattle.rows.proofs.Adding.{adds-then}
+use Rattle.output.proofs.Adding.{adds-then}
 
 -- as many bytes more at most, with room or without
 pub ends : {o b x : List ℕ} {len r : ℕ} (k : ℕ) → Adds o len b r x → length b ≤ k → r ≤ len + k

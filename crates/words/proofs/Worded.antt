@@ -10,7 +10,7 @@ use Rattle.laws.specs.declared.ChessRetraction.{ChessRetraction}
 use Rattle.output.specs.Appending.{Adds}
 use Rattle.rows.specs.Rows.{decimalOf}
 use Rattle.men_field.specs.Placement.{squareName}
-use Rattle.rows.proofs.Adding.{adds-as, adds-then}
+use Rattle.output.proofs.Adding.{adds-as, adds-then}
 use Rattle.words.specs.Words.{bytes, sideName, nameOf, movedKind, wayText, deedText, becomingText, verdictText, subjectText, wordsOf}
 use Rattle.words.proofs.Chained.{four-added, five-added}
 use Rattle.words.proofs.Lengths.{name-short, subject-short, way-short, words-short}

@@ -35,7 +35,7 @@ pub(super) fn put_squares(out: &mut [u8; 65536], len: usize, set: u64) -> usize
     ensures { λ n. ⌜ Grows len n ⌝ }
 {
     let mut text = [0u8; 191];
-    let n = rows::inner::put_squares(&mut text, 0, set);
+    let n = square_names::inner::put_squares(&mut text, 0, set);
     puts::inner::front(out, len, &text, n)
 }
 

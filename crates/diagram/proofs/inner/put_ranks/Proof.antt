@@ -7,7 +7,7 @@ use borrow.Author.Needs.{needs}
 use denote.Ref.{now}
 use Rattle.squares.specs.Members.{concat}
 use Rattle.output.specs.Appending.{Adds}
-use Rattle.rows.proofs.Adding.{adds-nothing}
+use Rattle.output.proofs.Adding.{adds-nothing}
 use Rattle.diagram.specs.Diagrams.{rankText, eight}
 use Rattle.diagram.proofs.Drawn.{eight-next, eight-all, all-ranks-length, ranks-most}
 use Rattle.diagram.proofs.inner.put_ranks.Statement.{statement}

@@ -1,6 +1,6 @@
 -- `diagram::inner::put_square` meets its contract.
 use borrow.Author.Needs.{needs}
-use Rattle.rows.proofs.Adding.{adds-as}
+use Rattle.output.proofs.Adding.{adds-as}
 use Rattle.diagram.proofs.inner.put_square.Statement.{statement}
 use Rattle.diagram.proofs.inner.put_square.Tie as tie
 

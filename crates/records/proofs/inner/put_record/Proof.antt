@@ -6,7 +6,7 @@ use lib.Seq.{length-take-le}
 use denote.Ref.{now}
 use Rattle.text.specs.Form.{printed}
 use Rattle.output.proofs.Added.{used-adds}
-use Rattle.rows.proofs.Adding.{adds-as}
+use Rattle.output.proofs.Adding.{adds-as}
 use Rattle.records.specs.inner.Answering.{withState}
 use Rattle.records.proofs.Writing.{record-shown}
 use borrow.Author.Needs.{needs}

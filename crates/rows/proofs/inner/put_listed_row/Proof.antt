@@ -3,7 +3,7 @@ use mathlib.Core.Bool.{true, false}
 use mathlib.Core.Path.{sym, _∙_}
 use borrow.Author.Needs.{needs}
 use denote.Ref.{now}
-use Rattle.rows.proofs.Adding.{adds-as}
+use Rattle.output.proofs.Adding.{adds-as}
 use Rattle.rows.proofs.Rows.{listed-row}
 use Rattle.rows.proofs.inner.put_listed_row.Statement.{statement}
 use Rattle.rows.proofs.inner.put_listed_row.Tie as tie

@@ -1,7 +1,7 @@
 -- `rows::inner::put_row` meets its contract.
 use borrow.Author.Needs.{needs}
 use Rattle.output.proofs.Added.{used-adds}
-use Rattle.rows.proofs.Adding.{adds-as}
+use Rattle.output.proofs.Adding.{adds-as}
 use Rattle.rows.proofs.inner.put_row.Statement.{statement}
 use Rattle.rows.proofs.inner.put_row.Tie as tie
 

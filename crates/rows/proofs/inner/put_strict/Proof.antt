@@ -9,7 +9,8 @@ use denote.Ref.{now}
 use Rattle.squares.specs.Members.{concat}
 use Rattle.output.specs.Appending.{Adds}
 use Rattle.rows.specs.Rows.{strictRow}
-use Rattle.rows.proofs.Adding.{adds-as, adds-nothing, adds-next}
+use Rattle.output.proofs.Adding.{adds-as, adds-nothing}
+use Rattle.rows.proofs.Adding.{adds-next}
 use Rattle.rows.proofs.inner.put_strict.Statement.{statement}
 use Rattle.rows.proofs.inner.put_strict.Tie as tie
 

@@ -1,7 +1,7 @@
 -- `rows::inner::put_strict_row` meets its contract.
 use mathlib.Core.Path.{sym, _∙_}
 use borrow.Author.Needs.{needs}
-use Rattle.rows.proofs.Adding.{adds-as, adds-nothing}
+use Rattle.output.proofs.Adding.{adds-as, adds-nothing}
 use Rattle.rows.proofs.Rows.{strict-row}
 use Rattle.rows.proofs.inner.put_strict_row.Statement.{statement}
 use Rattle.rows.proofs.inner.put_strict_row.Tie as tie

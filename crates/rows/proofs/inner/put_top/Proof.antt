@@ -1,7 +1,7 @@
 -- `rows::inner::put_top` meets its contract.
 use borrow.Author.Needs.{needs}
 use Rattle.output.proofs.Added.{used-adds}
-use Rattle.rows.proofs.Squares.{squares-room, top-shown}
+use Rattle.rows.proofs.Top.{squares-room, top-shown}
 use Rattle.rows.proofs.inner.put_top.Statement.{statement}
 use Rattle.rows.proofs.inner.put_top.Tie as tie
 

@@ -1,7 +1,7 @@
 -- `words::inner::put_becoming` meets its contract.
 use native.Mathlib.Omega.{arith}
 use borrow.Author.Needs.{needs}
-use Rattle.rows.proofs.Adding.{adds-nothing}
+use Rattle.output.proofs.Adding.{adds-nothing}
 use Rattle.words.specs.Words.{bytesIn, bytes}
 use Rattle.words.proofs.Worded.{name-added}
 use Rattle.words.proofs.inner.put_becoming.Statement.{statement}

@@ -2,7 +2,7 @@
 use native.Mathlib.Omega.{arith}
 use borrow.Author.Needs.{needs}
 use denote.Ref.{now}
-use Rattle.rows.proofs.Adding.{adds-then}
+use Rattle.output.proofs.Adding.{adds-then}
 use Rattle.words.proofs.Lengths.{counted-short}
 use Rattle.words.proofs.inner.put_counted.Statement.{statement}
 use Rattle.words.proofs.inner.put_counted.Tie as tie

@@ -3,7 +3,7 @@ use mathlib.Core.Path.{sym, _∙_}
 use native.Mathlib.Omega.{arith}
 use borrow.Author.Tests.{lt-ltb, le-ltb}
 use borrow.Author.Needs.{needs}
-use Rattle.rows.proofs.Adding.{adds-nothing}
+use Rattle.output.proofs.Adding.{adds-nothing}
 use Rattle.words.specs.Words.{bytesIn, bytes}
 use Rattle.words.proofs.Worded.{name-added}
 use Rattle.words.proofs.inner.put_deed.Statement.{statement}

@@ -1,6 +1,6 @@
 -- `words::inner::put_name` meets its contract.
 use borrow.Author.Needs.{needs}
-use Rattle.rows.proofs.Adding.{adds-as}
+use Rattle.output.proofs.Adding.{adds-as}
 use Rattle.words.specs.Words.{bytesIn}
 use Rattle.words.proofs.Worded.{name-rest}
 use Rattle.words.proofs.inner.put_name.Statement.{statement}

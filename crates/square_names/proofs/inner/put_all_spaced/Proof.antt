@@ -1,13 +1,13 @@
--- `rows::inner::put_all_spaced` meets its contract.
+-- `square_names::inner::put_all_spaced` meets its contract.
 use mathlib.Core.Path.{_≡_, refl}
 use lib.ListN.{length}
 use borrow.Author.Needs.{needs}
 use denote.Ref.{now}
-use Rattle.rows.specs.Rows.{spacedName}
+use Rattle.square_names.specs.Names.{spacedName}
 use Rattle.squares.proofs.Members.{Going, going-starts, going-less, going-on, going-done}
-use Rattle.rows.proofs.Squares.{addOne, one-added, loop-adds}
-use Rattle.rows.proofs.inner.put_all_spaced.Statement.{statement}
-use Rattle.rows.proofs.inner.put_all_spaced.Tie as tie
+use Rattle.square_names.proofs.Squares.{addOne, one-added, loop-adds}
+use Rattle.square_names.proofs.inner.put_all_spaced.Statement.{statement}
+use Rattle.square_names.proofs.inner.put_all_spaced.Tie as tie
 
 abbrev Inv-loop : tie.InvT-loop
 Inv-loop out₀ len set at₀ left₀ out at left = Going (addOne spacedName) (len, out₀) set (at, out) left × (length out ≡ length out₀)

@@ -1,10 +1,10 @@
--- `rows::inner::put_squares` meets its contract.
+-- `square_names::inner::put_squares` meets its contract.
 use borrow.Author.Needs.{needs}
 use Rattle.output.proofs.Added.{used-adds}
-use Rattle.rows.proofs.Adding.{adds-as}
-use Rattle.rows.proofs.Squares.{dash-is, others-room, names-added}
-use Rattle.rows.proofs.inner.put_squares.Statement.{statement}
-use Rattle.rows.proofs.inner.put_squares.Tie as tie
+use Rattle.output.proofs.Adding.{adds-as}
+use Rattle.square_names.proofs.Squares.{dash-is, others-room, names-added}
+use Rattle.square_names.proofs.inner.put_squares.Statement.{statement}
+use Rattle.square_names.proofs.inner.put_squares.Tie as tie
 
 slice-aggregate-put-bytes : tie.Need-slice-aggregate-put-bytes
 slice-aggregate-put-bytes c = search needs

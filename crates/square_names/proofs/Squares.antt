@@ -1,21 +1,18 @@
--- The squares of a set in writing, and the lines above the rows.
+-- The squares of a set in writing.
 use mathlib.Core.Path.{_≡_, refl, sym, _∙_, ap, subst}
 use mathlib.Core.Bool.{Bool, true, false, cond}
 use mathlib.Core.List.{List, [], _∷_, _++_}
 use Prim.Native.Nat.{ℕ, zero, suc, _^_, _+_, _*_, _≤_, _<_}
 use native.Mathlib.Omega.{arith}
-use lib.ListN.{length, take, length-append}
-use lib.Seq.{length-take-le}
-use Rattle.io.specs.Counts.{Counts}
+use lib.ListN.{length, length-append}
 use Rattle.squares.specs.Squares.{has, setOf, besides}
 use Rattle.squares.specs.Members.{listTo, members, lowestOf, forEach, concat}
 use Rattle.output.specs.Appending.{addedLen, addedOut, Adds}
 use Rattle.men_field.specs.Placement.{squareName}
-use Rattle.rows.specs.Rows.{headOf, spacedName, squareNames, squaresText, checkersLine}
+use Rattle.square_names.specs.Names.{spacedName, squareNames, squaresText}
 use Rattle.squares.proofs.Members.{members-none, members-next, least-of, concat-both}
-use Rattle.output.proofs.Added.{added-len, added-bytes, added-length}
-use Rattle.rows.proofs.Adding.{adds-as, adds-nothing, adds-then}
-use Rattle.rows.proofs.Decimals.{head-short}
+use Rattle.output.proofs.Added.{added-len, added-length}
+use Rattle.output.proofs.Adding.{adds-as, adds-nothing, adds-then}
 
 -- a turn of a loop over members: how many bytes are in use, and the buffer, with the text of one more
 abbrev pub addOne : (ℕ → List ℕ) → ℕ × List ℕ → ℕ → ℕ × List ℕ
@@ -90,20 +87,3 @@ module _ {s k next : ℕ} (h : s < 2 ^ 64) (some : s ≡ 0 → ⊥) (lowest : k 
     names-added n y q =
         adds-as o y (squareName k ++ concat spacedName (members next)) (squaresText s) len n
         (adds-then o x y (squareName k) (concat spacedName (members next)) len r n (omega (arith, size)) p q) names-are
-
--- the checkers' line behind the head, in a buffer of 256
-module _ (o : List ℕ) (a b n : ℕ) (l : length o ≡ 256) (ha : a < 2 ^ 64) (hb : b < 2 ^ 64) (counts : Counts n o) (head : take n o ≡ headOf a b) where
-  short : n ≤ 56
-  short = omega (arith, counts .1, ap length head, head-short a b ha hb)
-
-  pub squares-room : n + 191 ≤ length o
-  squares-room = omega (arith, short)
-
-  pub top-shown : (checkers m r : ℕ) (x y : List ℕ) → Adds o n (squaresText checkers) m x → Adds x m (10 ∷ []) r y
-      → Counts r y × (take r y ≡ headOf a b ++ checkersLine checkers)
-  top-shown checkers m r x y p q =
-      let t = checkersLine checkers in
-      let h : n + length t ≤ length o = omega (arith, short, squares-short checkers, length-append (squaresText checkers) (10 ∷ [])) in
-      let both = adds-then o x y (squaresText checkers) (10 ∷ []) n m r h p q in
-      let w : r ≤ length y = omega (arith, added-len o t y n r both h, added-length o t y n r both h) in
-      ((w, sym (length-take-le r y w)), added-bytes o t y n r both h ∙ ap (λ (s : List ℕ). s ++ t) head)

@@ -1,8 +1,8 @@
--- `rows::inner::put_spaced` meets its contract.
+-- `square_names::inner::put_spaced` meets its contract.
 use borrow.Author.Needs.{needs}
 use Rattle.output.proofs.Added.{used-adds}
-use Rattle.rows.proofs.inner.put_spaced.Statement.{statement}
-use Rattle.rows.proofs.inner.put_spaced.Tie as tie
+use Rattle.square_names.proofs.inner.put_spaced.Statement.{statement}
+use Rattle.square_names.proofs.inner.put_spaced.Tie as tie
 
 add-t6 : tie.Need-add-t6
 add-t6 c = search needs
