@@ -23,7 +23,8 @@ use Rattle.retraction_gen.specs.Sequence.{sequenceOn}
 use Rattle.slots.specs.declared.Listed.{Listed}
 use Rattle.slots.specs.declared.Listed.the-variants.{Count, Room, Refused as notListed}
 use Rattle.slots.specs.Slots.{listedSays}
-use Rattle.strict.specs.Demand.{IsStrictList, Lists, strictMoves}
+use Rattle.strict_search.specs.inner.Searching.{strictMoves}
+use Rattle.strict.specs.Demand.{IsStrictList, Lists}
 use Rattle.reply.specs.Replies.{refusedText, roomTest, listedTests, bothTests, numberThen, boardText, answerText, over, slotsThen, Shows, AnswersBoard, listedThen, Replies}
 use Rattle.refusal.proofs.Saying.{some-number}
 use Rattle.refusal.proofs.Tested.{stop-on}

@@ -1,5 +1,3 @@
-pub mod Skipping
-pub mod Remaining
 pub mod Unique
 pub mod Told
 pub mod Numbered

@@ -26,10 +26,10 @@ use Rattle.board.specs.Gate.{posOn, toLaws, freshOn, gateOf, boardTests}
 use Rattle.slots.specs.declared.Listed.{Listed}
 use Rattle.slots.specs.declared.Listed.the-variants.{Refused as notListed}
 use Rattle.slots.specs.Slots.{listedSays}
+use Rattle.strict_search.specs.inner.Searching.{strictMoves, testOf, Next}
 use Rattle.strict.specs.declared.Counted.the-variants.{Count, Refused as notCounted}
 use Rattle.strict.specs.declared.LastMove.the-variants.{Exists, NoLastMove, Refused as notAnswered}
-use Rattle.strict.specs.Demand.{Past, IsStrictList, Lists, Counts, Answers, strictMoves}
-use Rattle.strict.specs.inner.Searching.{testOf, Next}
+use Rattle.strict.specs.Demand.{Past, IsStrictList, Lists, Counts, Answers}
 use Rattle.squares.proofs.Testing.{both, left, right}
 use Rattle.laws.proofs.Facts.{accepts}
 use Rattle.laws.proofs.StrictMembers.{map-in, in-map, in-passes, placed-place, strict-in, strict-order, strict-member}
@@ -38,7 +38,7 @@ use Rattle.refusal.proofs.Saying.{never, behind-by}
 use Rattle.refusal.proofs.Writing.{no-both, writes-behind, writes-refused}
 use Rattle.board.proofs.Passing.{Passed, gate-passed}
 use Rattle.board.proofs.Numbers.{gate-refuses, gate-passes}
-use Rattle.strict.proofs.Remaining.{rest, all-rest, at-end, one-more}
+use Rattle.strict_search.proofs.Remaining.{rest, all-rest, at-end, one-more}
 
 -- the Laws' record of a board is accepted exactly when the gate lets the board pass
 pub gate-by : (b : RetractableBoard) → acceptedBoard (toLaws b) ≡ true → gateOf b ≡ Accepted

@@ -5,10 +5,9 @@ use mathlib.Core.List.{List, [], _∷_, map}
 use Prim.Native.Nat.{ℕ}
 use lib.ListN.{length}
 use Rattle.laws.specs.declared.ChessRetraction.{ChessRetraction}
-use Rattle.laws.specs.Positions.{Pos}
 use Rattle.laws.specs.Retractions.{packed}
 use Rattle.laws.specs.Strictness.{Gives}
-use Rattle.laws.specs.StrictLists.{place, retractionAt, strictPlaces, Ascending, In}
+use Rattle.laws.specs.StrictLists.{place, Ascending, In}
 use Rattle.laws.specs.Boards.{Shaped}
 use Rattle.refusal.specs.declared.Verdict.the-variants.{Accepted}
 use Rattle.refusal.specs.Said.{firstFailing, Said, numberSaid, told, refusal, behind, Writes}
@@ -58,7 +57,3 @@ pub record Answers (b : RetractableBoard) (r : LastMove) : Type 0 where
   pub number : numberSaid (lastSays r) ≡ firstFailing (boardTests b)
   pub exists : gateOf b ≡ Accepted → (lastSays r ≡ told (1 ∷ [])) ↔ ((q : ChessRetraction) × Past b q)
   pub none : gateOf b ≡ Accepted → (lastSays r ≡ told (0 ∷ [])) ↔ ((q : ChessRetraction) → Past b q → ⊥)
-
--- the Laws' strict list as retractions
-unfoldable pub strictMoves : Pos → List ChessRetraction
-strictMoves p = map retractionAt (strictPlaces p)

@@ -1,2 +1,1 @@
 pub mod Demand
-pub mod inner

@@ -5,7 +5,7 @@ use refusal::Verdict;
 use slots::Listed;
 ghost use Rattle.strict.specs.Demand.{Lists, Counts, Answers};
 
-pub mod inner; // inner.rt: the strict places of a position in order, counted and written
+pub mod inner; // inner.rt: the position of an accepted board, and its strict list
 
 // How many strict retractions there are, or why the board is refused.
 pub enum Counted {
@@ -41,7 +41,7 @@ pub fn strict_count(b: RetractableBoard) -> Counted
         Verdict::Refused(why) => Counted::Refused(why),
         Verdict::Accepted => {
             let p = inner::today(b);
-            Counted::Count(inner::count(&t, p))
+            Counted::Count(strict_search::inner::count(&t, p))
         }
     }
 }
@@ -56,8 +56,8 @@ pub fn last_move(b: RetractableBoard) -> LastMove
         Verdict::Refused(why) => LastMove::Refused(why),
         Verdict::Accepted => {
             let p = inner::today(b);
-            let first = inner::next_from(&t, p, 0);
-            if first < inner::PLACES {
+            let first = strict_search::inner::next_from(&t, p, 0);
+            if first < strict_search::inner::PLACES {
                 return LastMove::Exists;
             }
             LastMove::NoLastMove

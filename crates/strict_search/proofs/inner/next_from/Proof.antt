@@ -1,11 +1,11 @@
--- `strict::inner::next_from` meets its contract.
+-- `strict_search::inner::next_from` meets its contract.
 use Prim.Native.Nat.{_-_}
 use native.Mathlib.Omega.{arith}
 use Rattle.laws.specs.Boards.{posAt}
-use Rattle.strict.specs.inner.Searching.{testOf, Skips}
-use Rattle.strict.proofs.Skipping.{skips-none, skips-both}
-use Rattle.strict.proofs.inner.next_from.Statement.{statement}
-use Rattle.strict.proofs.inner.next_from.Tie as tie
+use Rattle.strict_search.specs.inner.Searching.{testOf, Skips}
+use Rattle.strict_search.proofs.Skipping.{skips-none, skips-both}
+use Rattle.strict_search.proofs.inner.next_from.Statement.{statement}
+use Rattle.strict_search.proofs.inner.next_from.Tie as tie
 
 abbrev Inv-loop : tie.InvT-loop
 Inv-loop t p start i₀ i = Skips (testOf (posAt p)) start i

@@ -1,10 +1,16 @@
--- How the places are searched.
+-- The strict list of a position, and how the places are searched.
 use mathlib.Core.Path.{_≡_}
 use mathlib.Core.Bool.{Bool, true, false}
+use mathlib.Core.List.{List, map}
 use Prim.Native.Nat.{ℕ, _≤_, _<_}
+use Rattle.laws.specs.declared.ChessRetraction.{ChessRetraction}
 use Rattle.laws.specs.Positions.{Pos}
-use Rattle.laws.specs.StrictLists.{retractionAt}
+use Rattle.laws.specs.StrictLists.{retractionAt, strictPlaces}
 use Rattle.strict_test.specs.inner.Strictly.{strictFor}
+
+-- the Laws' strict list as retractions
+unfoldable pub strictMoves : Pos → List ChessRetraction
+strictMoves p = map retractionAt (strictPlaces p)
 
 unfoldable pub testOf : Pos → ℕ → Bool
 testOf p i = strictFor p (retractionAt i)

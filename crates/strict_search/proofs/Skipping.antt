@@ -9,7 +9,7 @@ use Rattle.laws.specs.Positions.{Pos}
 use Rattle.laws.specs.StrictLists.{retractionAt}
 use Rattle.unmake.specs.Retracted.{sourceFor, targetFor}
 use Rattle.strict_test.specs.inner.Coming.{comesFor}
-use Rattle.strict.specs.inner.Searching.{testOf, Skips, Looks}
+use Rattle.strict_search.specs.inner.Searching.{testOf, Skips, Looks}
 use Rattle.squares.proofs.Testing.{order}
 use Rattle.strict_test.proofs.Passing.{no-source, no-target, no-coming}
 

@@ -1,4 +1,4 @@
--- `strict::inner::fill` meets its contract.
+-- `strict_search::inner::fill` meets its contract.
 use borrow.Author.Needs.{needs}
 use mathlib.Core.Path.{_≡_, refl, sym, ap, _∙_}
 use Prim.Native.Nat.{_+_, _-_, _≤_}
@@ -7,11 +7,10 @@ use lib.ListN.{length}
 use Rattle.laws.specs.Boards.{posAt}
 use Rattle.slots.specs.Slots.{fillFrom}
 use Rattle.slots.proofs.Filling.{fill-on}
-use Rattle.strict.specs.inner.Searching.{testOf}
-use Rattle.strict.specs.Demand.{strictMoves}
-use Rattle.strict.proofs.Remaining.{rest, all-rest, at-end, inner, one-more, over, placed-in}
-use Rattle.strict.proofs.inner.fill.Statement.{statement}
-use Rattle.strict.proofs.inner.fill.Tie as tie
+use Rattle.strict_search.specs.inner.Searching.{strictMoves, testOf}
+use Rattle.strict_search.proofs.Remaining.{rest, all-rest, at-end, inner, one-more, over, placed-in}
+use Rattle.strict_search.proofs.inner.fill.Statement.{statement}
+use Rattle.strict_search.proofs.inner.fill.Tie as tie
 
 abbrev Inv-loop : tie.InvT-loop
 Inv-loop t p slots₀ n₀ i₀ slots n i = (i ≤ 49152) × ((n + length (rest (testOf (posAt p)) i) ≤ length slots) × ((length slots ≡ length slots₀) × (fillFrom slots n (rest (testOf (posAt p)) i) ≡ fillFrom slots₀ 0 (strictMoves (posAt p)))))

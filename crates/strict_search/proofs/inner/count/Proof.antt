@@ -1,14 +1,13 @@
--- `strict::inner::count` meets its contract.
+-- `strict_search::inner::count` meets its contract.
 use mathlib.Core.Path.{_≡_, ap}
 use Prim.Native.Nat.{_+_, _-_, _≤_}
 use native.Mathlib.Omega.{arith}
 use lib.ListN.{length}
 use Rattle.laws.specs.Boards.{posAt}
-use Rattle.strict.specs.inner.Searching.{testOf}
-use Rattle.strict.specs.Demand.{strictMoves}
-use Rattle.strict.proofs.Remaining.{rest, all-rest, moves-le, at-end, inner, one-more, over}
-use Rattle.strict.proofs.inner.count.Statement.{statement}
-use Rattle.strict.proofs.inner.count.Tie as tie
+use Rattle.strict_search.specs.inner.Searching.{strictMoves, testOf}
+use Rattle.strict_search.proofs.Remaining.{rest, all-rest, moves-le, at-end, inner, one-more, over}
+use Rattle.strict_search.proofs.inner.count.Statement.{statement}
+use Rattle.strict_search.proofs.inner.count.Tie as tie
 
 abbrev Inv-loop : tie.InvT-loop
 Inv-loop t p n₀ i₀ n i = (i ≤ 49152) × (n + length (rest (testOf (posAt p)) i) ≡ length (strictMoves (posAt p)))

@@ -1,13 +1,13 @@
--- `strict::inner::look` meets its contract.
+-- `strict_search::inner::look` meets its contract.
 use mathlib.Core.Path.{sym, _∙_}
 use borrow.Author.Tests.{not-true, not-false}
 use Rattle.laws.specs.Boards.{posAt}
-use Rattle.strict.specs.inner.Searching.{testOf}
+use Rattle.strict_search.specs.inner.Searching.{testOf}
 use Rattle.unmake.proofs.Answering.{source-in, target-in}
-use Rattle.strict.proofs.Skipping.{skip-source, skip-target, skip-coming, found, passed}
+use Rattle.strict_search.proofs.Skipping.{skip-source, skip-target, skip-coming, found, passed}
 use borrow.Author.Needs.{needs}
-use Rattle.strict.proofs.inner.look.Statement.{statement}
-use Rattle.strict.proofs.inner.look.Tie as tie
+use Rattle.strict_search.proofs.inner.look.Statement.{statement}
+use Rattle.strict_search.proofs.inner.look.Tie as tie
 
 candidate-requires : tie.Need-candidate-requires
 candidate-requires c κs = search needs

@@ -12,8 +12,7 @@ use Rattle.laws.specs.Retractions.{InRange}
 use Rattle.squares.specs.Members.{numbersFrom}
 use Rattle.laws.specs.StrictLists.{retractionAt}
 use Rattle.strict_test.specs.inner.Strictly.{strictFor}
-use Rattle.strict.specs.Demand.{strictMoves}
-use Rattle.strict.specs.inner.Searching.{testOf, Skips, Next}
+use Rattle.strict_search.specs.inner.Searching.{strictMoves, testOf, Skips, Next}
 
 -- the retractions at the n places from i on that pass
 unfoldable pub movesFrom : (ℕ → Bool) → ℕ → ℕ → List ChessRetraction
