@@ -18,7 +18,7 @@ pub fn read_in(line: &[u8], at: usize, edition: Edition) -> Boarded {
 pub fn put_text(b: RetractableBoard, out: &mut [u8; 65536], len: usize) -> usize
     ensures { λ r. ⌜ Grows len r ⌝ }
 {
-    let l = text::inner::line_of(board::inner::position_of(b));
+    let l = position_text::inner::line_of(board::inner::position_of(b));
     let bytes = l.bytes;
     puts::inner::front(out, len, &bytes, l.len)
 }

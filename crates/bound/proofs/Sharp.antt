@@ -26,8 +26,8 @@ use Rattle.enumerate.specs.Lists.{lesserOf, kindsOf, byCheckers, namedOf, listO
 use Rattle.retraction_gen.specs.Making.{listOn}
 use Rattle.men_field.specs.inner.Letters.{numberByLetter, widthOf, placeOf, manByNumber, menByNumbers}
 use Rattle.men_field.specs.Placement.{runText, squaresFrom, ranksText, menText}
-use Rattle.text.specs.Form.{printOf, printed}
-use Rattle.text.specs.inner.Reading.{rightOf, squareOf, stepMen, stepTail, stepOf, runOf}
+use Rattle.position_text.specs.Form.{printOf, printed}
+use Rattle.position_text.specs.inner.Reading.{rightOf, squareOf, stepMen, stepTail, stepOf, runOf}
 use Rattle.daggers.specs.Names.{bytes}
 use Rattle.bound.specs.Limits.{men, limit, Enough, Needs, Full, sixteen, seventeen, twentyFour, twentyThree}
 use Rattle.squares.proofs.Testing.{order}

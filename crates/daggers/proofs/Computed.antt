@@ -16,8 +16,8 @@ use Rattle.view.specs.Views.{castlingRooks, within, viewOf}
 use Rattle.enumerate.specs.Lists.{lesserOf, kindsOf, byCheckers, namedOf, listOf}
 use Rattle.men_field.specs.inner.Letters.{numberByLetter, widthOf, placeOf, manByNumber, menByNumbers}
 use Rattle.men_field.specs.Placement.{runText, squaresFrom, ranksText, menText}
-use Rattle.text.specs.Form.{printOf}
-use Rattle.text.specs.inner.Reading.{rightOf, squareOf, stepMen, stepTail, stepOf, runOf}
+use Rattle.position_text.specs.Form.{printOf}
+use Rattle.position_text.specs.inner.Reading.{rightOf, squareOf, stepMen, stepTail, stepOf, runOf}
 use Rattle.retraction_gen.specs.Making.{listOn}
 use Rattle.daggers.specs.Names.{square}
 use Rattle.daggers.specs.Table.{OnText}

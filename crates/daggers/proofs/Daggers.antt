@@ -21,8 +21,8 @@ use Rattle.laws.specs.Boards.{menAt, kindSets, colorSets}
 use Rattle.board.specs.Gate.{menOn, posOn}
 use Rattle.men_field.specs.inner.Letters.{numberByLetter, widthOf, placeOf, manByNumber, menByNumbers}
 use Rattle.men_field.specs.Placement.{runText, squaresFrom, ranksText, menText}
-use Rattle.text.specs.Form.{printOf, printed}
-use Rattle.text.specs.inner.Reading.{rightOf, squareOf, stepMen, stepTail, stepOf, runOf}
+use Rattle.position_text.specs.Form.{printOf, printed}
+use Rattle.position_text.specs.inner.Reading.{rightOf, squareOf, stepMen, stepTail, stepOf, runOf}
 use Rattle.daggers.specs.Names.{bytes, square, named}
 use Rattle.daggers.specs.Table.{Line, isStrict, notStrict, hasBetween, hasSouls, packs, Says, Say, table}
 use Rattle.squares.proofs.Testing.{left, right}

@@ -19,8 +19,8 @@ use Rattle.board.specs.declared.Boarded.{Boarded}
 use Rattle.board.specs.Gate.{posOn, gateOf, boardedBy}
 use Rattle.strict.specs.Demand.{IsStrictList}
 use Rattle.laws.specs.declared.Position.{Position}
-use Rattle.text.specs.Form.{printed, Says}
-use Rattle.text.specs.inner.Reading.{startOf, runOf, rawOf}
+use Rattle.position_text.specs.Form.{printed, Says}
+use Rattle.position_text.specs.inner.Reading.{startOf, runOf, rawOf}
 use Rattle.board.specs.Answers.{workedOf}
 use Rattle.text.specs.Entries.{Reads}
 use Rattle.daggers.specs.Names.{bytes}
@@ -30,7 +30,7 @@ use Rattle.squares.proofs.Every.{all-at}
 use Rattle.squares.proofs.Comprehension.{flag-lt}
 use Rattle.laws.proofs.StrictMembers.{placed-place, strict-in}
 use Rattle.board.proofs.Passing.{gate-judged}
-use Rattle.text.proofs.Inverse.{in-form, says-men-ok}
+use Rattle.position_text.proofs.Inverse.{in-form, says-men-ok}
 use Rattle.text.proofs.RoundTrip.{read-said}
 use Rattle.strict.proofs.Told.{gate-by, strict-past}
 

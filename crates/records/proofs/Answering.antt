@@ -15,11 +15,11 @@ use Rattle.laws.specs.declared.Position.{Position}
 use Rattle.refusal.specs.declared.Refusal.the-variants.{Text}
 use Rattle.board.specs.Gate.{noBoard}
 use Rattle.board.specs.Answers.{workedOf}
-use Rattle.text.specs.declared.Form.{Form}
-use Rattle.text.specs.declared.Form.the-variants.{InForm, OutOfForm}
-use Rattle.text.specs.declared.Raw.{Raw}
-use Rattle.text.specs.Form.{printed, Says as FourSays, AnswersBy, Answers}
-use Rattle.text.proofs.Inverse.{says-one}
+use Rattle.position_text.specs.declared.Form.{Form}
+use Rattle.position_text.specs.declared.Form.the-variants.{InForm, OutOfForm}
+use Rattle.position_text.specs.declared.Raw.{Raw}
+use Rattle.position_text.specs.Form.{printed, Says as FourSays, AnswersBy, Answers}
+use Rattle.position_text.proofs.Inverse.{says-one}
 use Rattle.rows.specs.Rows.{decimalOf}
 use Rattle.records.specs.declared.Why.the-variants.{Base}
 use Rattle.records.specs.declared.Recorded.{Recorded}

@@ -4,8 +4,8 @@ use mathlib.Core.List.{List, _∷_, _++_, append-assoc}
 use Prim.Native.Nat.{ℕ}
 use Rattle.laws.specs.declared.Edition.{Edition}
 use Rattle.laws.specs.declared.Position.{Position}
-use Rattle.text.specs.Form.{printed, Says as FourSays}
-use Rattle.text.proofs.Inverse.{says-one}
+use Rattle.position_text.specs.Form.{printed, Says as FourSays}
+use Rattle.position_text.proofs.Inverse.{says-one}
 use Rattle.rows.specs.Rows.{decimalOf}
 use Rattle.records.specs.Form.{StateNamed, Says}
 use Rattle.records.specs.inner.Answering.{withState, passedFields, pawnState}

@@ -8,7 +8,7 @@ use borrow.Author.Tests.{lt-ltb, le-ltb, ltb-true, ltb-false, eqb-true, eq-eqb, 
 use Rattle.squares.specs.Squares.{file, rank}
 use Rattle.laws.specs.declared.EnPassantFlag.{EnPassantFlag}
 use Rattle.laws.specs.declared.EnPassantFlag.the-variants.{Any, Some, None}
-use Rattle.text.specs.Form.{StateFits}
+use Rattle.position_text.specs.Form.{StateFits}
 use Rattle.records.specs.Form.{passedOf, passedState, StateNamed}
 use Rattle.records.specs.Entries.{isKnown}
 use Rattle.records.specs.inner.Answering.{pawnOf, pawnState}

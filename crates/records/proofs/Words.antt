@@ -14,8 +14,8 @@ use Rattle.laws.specs.declared.EnPassantFlag.{EnPassantFlag}
 use Rattle.laws.specs.declared.EnPassantFlag.the-variants.{Any, Some, None}
 use Rattle.laws.specs.declared.Edition.{Edition}
 use Rattle.laws.specs.declared.Position.{Position}
-use Rattle.text.specs.Form.{printed, Says as FourSays}
-use Rattle.text.proofs.Words.{says-formed as four-formed, says-state, formed-says as four-says, formed-state}
+use Rattle.position_text.specs.Form.{printed, Says as FourSays}
+use Rattle.position_text.proofs.Words.{says-formed as four-formed, says-state, formed-says as four-says, formed-state}
 use Rattle.rows.specs.Rows.{decimalOf}
 use Rattle.records.specs.declared.Recorded.{Recorded}
 use Rattle.records.specs.Form.{passedState, StateNamed, Says}

@@ -23,8 +23,8 @@ use Rattle.refusal.proofs.Writing.{writes-roomless, writes-whole}
 use Rattle.board.specs.declared.RetractableBoard.{RetractableBoard}
 use Rattle.board.specs.Gate.{gateOf, boardTests}
 use Rattle.board.proofs.Numbers.{gate-refuses, gate-passes}
-use Rattle.text.specs.Form.{printed}
-use Rattle.text.proofs.Tails.{print-short}
+use Rattle.position_text.specs.Form.{printed}
+use Rattle.position_text.proofs.Tails.{print-short}
 use Rattle.output.specs.declared.Put.{Put}
 use Rattle.output.specs.declared.Put.the-variants.{Count, Room}
 use Rattle.output.specs.Appending.{putSays, usedOf, Puts, PutsDecimal, Adds}

@@ -12,7 +12,7 @@ use Rattle.laws.specs.declared.Edition.{Edition}
 use Rattle.laws.specs.declared.Position.{Position}
 use Rattle.laws.specs.Positions.{termsOf}
 use Rattle.laws.specs.Boards.{menIn, Clean}
-use Rattle.text.specs.Form.{printOf}
+use Rattle.position_text.specs.Form.{printOf}
 use Rattle.rows.specs.Rows.{decimalOf}
 
 -- "the square passed over" by the pawn on s, on its file: on rank 3 behind one on rank 4, on rank 6 behind one on rank 5

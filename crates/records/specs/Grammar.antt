@@ -9,7 +9,7 @@ use Rattle.squares.specs.Tests.{_and_}
 use Rattle.squares.specs.Squares.{rank}
 use Rattle.laws.specs.declared.EnPassantFlag.{EnPassantFlag}
 use Rattle.laws.specs.declared.EnPassantFlag.the-variants.{Any, Some, None}
-use Rattle.text.specs.Grammar.{Formed as FourFormed}
+use Rattle.position_text.specs.Grammar.{Formed as FourFormed}
 
 abbrev pub isDigit : ℕ → Bool
 isDigit b = leb 48 b and leb b 57

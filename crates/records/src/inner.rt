@@ -9,10 +9,10 @@ use laws::Edition;
 use laws::EnPassantFlag;
 use laws::Position;
 use output::Put;
+use position_text::Form;
+use position_text::Raw;
 use refusal::Refusal;
 use refusal::Verdict;
-use text::Form;
-use text::Raw;
 ghost use mathlib.Core.Path.{_≡_};
 ghost use mathlib.Core.List.{[]};
 ghost use Prim.Native.Nat.{_≤_};
@@ -212,7 +212,7 @@ pub fn read(t: &[u64; 4096], text: &[u8], edition: Edition) -> Recorded
         return no_record(Why::Base(Refusal::Text));
     }
     let e = i - 1;
-    let raw = text::inner::read_raw(&text[..e], edition);
+    let raw = position_text::inner::read_raw(&text[..e], edition);
     let half = count(&text[i..k]);
     let full = count(&text[j..]);
     answer(t, raw, half, full)
@@ -240,7 +240,7 @@ fn put_record(line: &mut [u8; 96], p: Position, half: u16, full: u16) -> usize
 {
     let pawn = p.passant;
     let passed = passed_state(pawn);
-    let four = text::inner::line_of(with_state(p, passed));
+    let four = position_text::inner::line_of(with_state(p, passed));
     let bytes = four.bytes;
     let len = four.len;
     let fields = output::put_bytes(line, 0, &bytes[..len]).used(0);

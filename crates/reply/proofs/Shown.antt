@@ -23,7 +23,7 @@ use Rattle.refusal.proofs.Saying.{some-number}
 use Rattle.refusal.proofs.Writing.{Written, Roomless, Failed}
 use Rattle.board.proofs.Passing.{gate-passed}
 use Rattle.board.proofs.Numbers.{gate-passes}
-use Rattle.text.proofs.Tails.{print-short}
+use Rattle.position_text.proofs.Tails.{print-short}
 use Rattle.output.proofs.Added.{adds, added-len, added-out, added-length}
 use Rattle.output.proofs.Adding.{adds-then}
 use Rattle.rows.proofs.Decimals.{number-short, decimal-added}

@@ -1,9 +1,9 @@
 // A refusal by its number; and the answer of a board that its gate let pass: the ported list, then the strict one, then the text, the checkers and
 // both lists in writing. `t` is the table of squares between, lent.
 use board::RetractableBoard;
+use position_text::Copied;
 use refusal::Refusal;
 use slots::Listed;
-use text::Copied;
 ghost use mathlib.Core.Path.{_≡_};
 ghost use mathlib.Core.List.{map};
 ghost use Prim.Native.Nat.{_≤_};

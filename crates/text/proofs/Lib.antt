@@ -1,7 +1,2 @@
-pub mod Tails
-pub mod Bytes
-pub mod Walks
-pub mod Inverse
-pub mod Words
 pub mod RoundTrip
 pub mod Printing

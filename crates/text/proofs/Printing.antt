@@ -12,10 +12,10 @@ use Rattle.refusal.specs.declared.Verdict.the-variants.{Accepted, Refused as re
 use Rattle.refusal.specs.Said.{firstFailing, Said, numberSaid, Writes}
 use Rattle.board.specs.declared.RetractableBoard.{RetractableBoard}
 use Rattle.board.specs.Gate.{gateOf, boardTests}
-use Rattle.text.specs.declared.Copied.{Copied}
+use Rattle.position_text.specs.declared.Copied.{Copied}
 use Rattle.text.specs.declared.Printed.{Printed}
 use Rattle.text.specs.declared.Printed.the-variants.{Count, Room, Refused}
-use Rattle.text.specs.inner.Copies.{copiedSays}
+use Rattle.position_text.specs.inner.Copies.{copiedSays}
 use Rattle.text.specs.Entries.{textOn, printedSays}
 use Rattle.refusal.proofs.Saying.{number-one}
 use Rattle.refusal.proofs.Writing.{no-value, no-room, writes-behind, writes-refused, writes-one, Written, Roomless, Failed, tells-count, tells-room, tells-refused}

@@ -28,11 +28,11 @@ use Rattle.board.specs.Gate.{positionOn, menOn, gateOf, boardTests, noBoard, bo
 use Rattle.board.specs.Answers.{workedOf}
 use Rattle.board.specs.inner.Gates.{newOf}
 use Rattle.board.specs.Said.{Boards}
-use Rattle.text.specs.declared.Form.{Form}
-use Rattle.text.specs.declared.Form.the-variants.{InForm, OutOfForm}
-use Rattle.text.specs.declared.Raw.{Raw}
+use Rattle.position_text.specs.declared.Form.{Form}
+use Rattle.position_text.specs.declared.Form.the-variants.{InForm, OutOfForm}
+use Rattle.position_text.specs.declared.Raw.{Raw}
 use Rattle.laws.specs.declared.Position.{Position}
-use Rattle.text.specs.Form.{Says, StateFits, AnswersBy, Answers}
+use Rattle.position_text.specs.Form.{Says, StateFits, AnswersBy, Answers}
 use Rattle.text.specs.Entries.{Reads, said, unsaid, textOn}
 use Rattle.squares.proofs.Testing.{left, agree, agree-eq}
 use Rattle.laws.proofs.Cases.{by-cases}
@@ -44,7 +44,7 @@ use Rattle.board.proofs.Saying.{boards-by, boards-one}
 use Rattle.board.proofs.Passing.{new-is, gate-sound, gate-judged, worked-whole}
 use Rattle.board.proofs.Moving.{fresh-worked}
 use Rattle.board.proofs.Numbers.{gate-passes}
-use Rattle.text.proofs.Inverse.{says-one, says-short}
+use Rattle.position_text.proofs.Inverse.{says-one, says-short}
 
 -- any two answers to a text that the contract allows are the same
 pub read-one : (v : Edition) (t : List ℕ) (a b : Boarded) → Reads v t a → Reads v t b → a ≡ b

@@ -15,7 +15,7 @@ use Rattle.text.specs.declared.Printed.{Printed}
 use Rattle.text.specs.declared.Printed.the-variants.{Count, Room, Refused}
 use Rattle.laws.specs.declared.Edition.{Edition}
 use Rattle.laws.specs.declared.Position.{Position}
-use Rattle.text.specs.Form.{Says, printed}
+use Rattle.position_text.specs.Form.{Says, printed}
 
 -- "text through 14, then 1 to 6": the board of the position that the text says in the caller's edition, through 1 to 6, or 14 beside the
 -- empty board where it says none

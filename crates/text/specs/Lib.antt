@@ -1,4 +1,1 @@
-pub mod Form
-pub mod Grammar
 pub mod Entries
-pub mod inner

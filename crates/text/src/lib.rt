@@ -1,46 +1,18 @@
-// The text of a board: four fields, printed and read. What a text is stands in specs/Form, what the entries answer in specs/Entries.
+// The text of a board: its position's, printed behind the board's gate, and read into a board. What the entries answer stands in specs/Entries, what a text
+// is in position_text/specs/Form.
 use board::Boarded;
 use board::RetractableBoard;
 use laws::Edition;
-use laws::Position;
-pub use men_field::Line;
+use position_text::Copied;
 use refusal::Refusal;
 use refusal::Verdict;
 ghost use mathlib.Core.Path.{_≡_};
 ghost use Rattle.refusal.specs.Said.{Writes};
 ghost use Rattle.board.specs.Gate.{boardTests};
-ghost use Rattle.text.specs.inner.Copies.{copiedSays};
+ghost use Rattle.position_text.specs.inner.Copies.{copiedSays};
 ghost use Rattle.text.specs.Entries.{Reads, textOn, printedSays};
 
-pub mod inner; // inner.rt: the printer, the reader, and the copy into a lent slice
-
-// Whether a text has the form.
-pub enum Form {
-    InForm,
-    OutOfForm,
-}
-
-// What a text says: the empty position where it has not the form.
-pub struct Raw {
-    pub form: Form,
-    pub position: Position,
-}
-
-// A line copied into a lent slice: how many bytes were written, or are needed.
-pub enum Copied {
-    Count(usize),
-    Room(usize),
-}
-
-// What is read so far, leniently: a text out of form gives something too.
-pub struct Scan {
-    pub men: [u8; 64],
-    pub at: usize,
-    pub field: u8,
-    pub turn: u8,
-    pub rights: u8,
-    pub square: u8,
-}
+pub mod inner; // inner.rt: the printer without the gate, and the reader with a lent table
 
 // A board printed into a lent slice: how many bytes were written, or are needed, or why it was refused.
 pub enum Printed {

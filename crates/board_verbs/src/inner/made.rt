@@ -2,10 +2,10 @@
 use board::Boarded;
 use board::RetractableBoard;
 use laws::Edition;
+use position_text::Form;
+use position_text::Raw;
 use refusal::Refusal;
 use refusal::Verdict;
-use text::Form;
-use text::Raw;
 ghost use Rattle.puts.specs.inner.Growing.{Grows};
 
 // `raw TAB p n b r q k white black turn rights state`: the sets in hexadecimal, a square as its number
@@ -33,7 +33,7 @@ pub(super) fn replay(line: &[u8], out: &mut [u8; 65536]) -> usize
     let move_at = fields::inner::after(line, at, b'\t');
     let r = fields::inner::retraction(line, move_at);
     let kind = fields::inner::decimal(line, fields::inner::after(line, move_at, b'\t'));
-    let before = earlier(text::inner::read_raw(fields::inner::text(line, at), Edition::A));
+    let before = earlier(position_text::inner::read_raw(fields::inner::text(line, at), Edition::A));
     let v = before.verdict;
     match v {
         Verdict::Refused(w) => puts::inner::refused(w, out),

@@ -11,9 +11,9 @@ use Rattle.refusal.specs.declared.Verdict.the-variants.{Accepted, Refused}
 use Rattle.board.specs.declared.RetractableBoard.{RetractableBoard}
 use Rattle.board.specs.Gate.{noBoard}
 use Rattle.board.specs.inner.Gates.{newOf}
-use Rattle.text.specs.declared.Form.{Form}
-use Rattle.text.specs.declared.Form.the-variants.{InForm, OutOfForm}
-use Rattle.text.specs.declared.Raw.{Raw}
+use Rattle.position_text.specs.declared.Form.{Form}
+use Rattle.position_text.specs.declared.Form.the-variants.{InForm, OutOfForm}
+use Rattle.position_text.specs.declared.Raw.{Raw}
 use Rattle.records.specs.declared.Why.{Why}
 use Rattle.records.specs.declared.Why.the-variants.{Base, Counter}
 use Rattle.records.specs.declared.Outcome.the-variants.{Taken, Refused as notTaken}

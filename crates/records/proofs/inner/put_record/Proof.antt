@@ -4,7 +4,7 @@ use mathlib.Core.Path.{_≡_, _∙_, sym, ap}
 use lib.ListN.{length}
 use lib.Seq.{length-take-le}
 use denote.Ref.{now}
-use Rattle.text.specs.Form.{printed}
+use Rattle.position_text.specs.Form.{printed}
 use Rattle.output.proofs.Added.{used-adds}
 use Rattle.output.proofs.Adding.{adds-as}
 use Rattle.records.specs.inner.Answering.{withState}

@@ -1,7 +1,7 @@
 -- `reply::inner::put_lists` meets its contract.
 use mathlib.Core.Path.{ap}
 use denote.Ref.{now}
-use Rattle.text.specs.inner.Copies.{copiedSays}
+use Rattle.position_text.specs.inner.Copies.{copiedSays}
 use Rattle.refusal.proofs.Writing.{tells-count, tells-room}
 use Rattle.output.proofs.Added.{used-adds}
 use Rattle.reply.proofs.Shown.{lists-shown, never-room}

@@ -1,0 +1,5 @@
+pub mod Tails
+pub mod Bytes
+pub mod Walks
+pub mod Inverse
+pub mod Words
