@@ -14,10 +14,11 @@ use Rattle.board.specs.Gate.{positionOn}
 use Rattle.output.specs.Appending.{Adds}
 use Rattle.output.proofs.Adding.{adds-then}
 use Rattle.rows.proofs.Decimals.{number-short}
+use Rattle.record_fields.specs.Passed.{isKnown}
 use Rattle.records.specs.declared.Why.{Why}
 use Rattle.records.specs.declared.Written.{Written}
 use Rattle.records.specs.declared.Written.the-variants.{Count, Room, Refused}
-use Rattle.records.specs.Entries.{whyNumber, isKnown, recordOn, writtenSays, WritesRecord}
+use Rattle.records.specs.Entries.{whyNumber, recordOn, writtenSays, WritesRecord}
 use Rattle.records.proofs.Writing.{record-length}
 use Rattle.records.proofs.Saying.{writes-known}
 use Rattle.records.proofs.Giving.{some-why}

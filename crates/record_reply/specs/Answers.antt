@@ -11,9 +11,10 @@ use Rattle.board.specs.declared.RetractableBoard.{RetractableBoard}
 use Rattle.board.specs.declared.Boarded.{Boarded}
 use Rattle.text.specs.Entries.{Reads as ReadsText}
 use Rattle.turning.specs.Turned.{turnedOn}
+use Rattle.record_fields.specs.Passed.{isKnown}
 use Rattle.records.specs.declared.Recorded.{Recorded}
 use Rattle.records.specs.declared.Why.the-variants.{Unknown}
-use Rattle.records.specs.Entries.{whyNumber, outcomeNumber, Reads, isKnown, recordOn}
+use Rattle.records.specs.Entries.{whyNumber, outcomeNumber, Reads, recordOn}
 use Rattle.reply.specs.Replies.{newline, refusedText, Shows, AnswersBoard, listedThen}
 
 -- "the caller chooses", and is told: `edition A` or `edition B`

@@ -4,10 +4,9 @@ use mathlib.Core.Bool.{Bool, true, false, cond}
 use mathlib.Core.List.{List, _∷_, _++_, append-assoc}
 use Prim.Native.Nat.{ℕ, _-_, _≤_, _<_, min}
 use native.Mathlib.Omega.{arith}
-use lib.Dec.{leb}
-use lib.ListN.{length, getD, take, drop}
+use lib.ListN.{length, take, drop}
 use lib.Seq.{take-length}
-use borrow.Author.Tests.{lt-ltb, le-ltb, leb-true, leb-false, le-leb, lt-leb}
+use borrow.Author.Tests.{lt-ltb, le-ltb, leb-true}
 use Rattle.squares.specs.Tests.{_and_}
 use Rattle.squares.proofs.Testing.{left, right}
 use Rattle.laws.specs.declared.Edition.{Edition}
@@ -21,15 +20,19 @@ use Rattle.position_text.specs.declared.Raw.{Raw}
 use Rattle.position_text.specs.Form.{printed, Says as FourSays, AnswersBy, Answers}
 use Rattle.position_text.proofs.Inverse.{says-one}
 use Rattle.rows.specs.Rows.{decimalOf}
+use Rattle.record_fields.specs.Counters.{inRange}
+use Rattle.record_fields.specs.Passed.{isKnown}
+use Rattle.record_fields.specs.inner.Counting.{Counted, counted, uncounted}
+use Rattle.record_fields.specs.inner.Splitting.{Cut}
+use Rattle.record_fields.specs.inner.Pawns.{pawnState}
+use Rattle.record_fields.proofs.Counters.{min-range}
+use Rattle.record_fields.proofs.Splits.{Free, free-decimal, not-free, cut-one, free-part, cut-part, free-whole}
+use Rattle.record_fields.proofs.Pawns.{pawn-back, pawn-known, never-unknown}
 use Rattle.records.specs.declared.Why.the-variants.{Base}
 use Rattle.records.specs.declared.Recorded.{Recorded}
 use Rattle.records.specs.Form.{Says}
-use Rattle.records.specs.Entries.{inRange, numberFor, Gives, Reads, said, unsaid, isKnown}
-use Rattle.records.specs.inner.Counting.{Counted, counted, uncounted}
-use Rattle.records.specs.inner.Splitting.{Cut}
-use Rattle.records.specs.inner.Answering.{withState, passedFields, pawnState, noRecord, recordSaid, answerBy, answerOf}
-use Rattle.records.proofs.Splits.{Free, free-decimal, not-free, cut-one, free-part, cut-part, free-whole}
-use Rattle.records.proofs.Pawns.{pawn-back, pawn-known, never-unknown}
+use Rattle.records.specs.Entries.{numberFor, Gives, Reads, said, unsaid}
+use Rattle.records.specs.inner.Answering.{withState, passedFields, noRecord, recordSaid, answerBy, answerOf}
 use Rattle.records.proofs.Giving.{gives-refused, gives-said}
 use Rattle.records.proofs.Parts.{four-said, said-parts, parts-said}
 
@@ -40,24 +43,7 @@ says-nothing ed t r z e = unsaid z (subst (Gives 14 noBoard 0 0) (sym e) (gives-
 says-so : (ed : Edition) (t : List ℕ) (r : Recorded) (f : Position) (h n : ℕ) → Says ed f h n t → r ≡ recordSaid f h n → Reads ed t r
 says-so ed t r f h n s e = said f h n s (subst (Gives (numberFor f h n) (workedOf f) h n) (sym e) (gives-said f h n))
 
--- values above the range may be read as 10,000
-min-high : (h : ℕ) → leb (min h 10000) 9999 ≡ leb h 9999
-min-high h = go (leb h 9999) refl
-  where
-    go : (x : Bool) → leb h 9999 ≡ x → leb (min h 10000) 9999 ≡ x
-    go true e = le-leb (min h 10000) 9999 (omega (arith, leb-true h 9999 e))
-    go false e = lt-leb (min h 10000) 9999 (omega (arith, leb-false h 9999 e))
-
-min-low : (h : ℕ) → leb 1 (min h 10000) ≡ leb 1 h
-min-low h = go (leb 1 h) refl
-  where
-    go : (x : Bool) → leb 1 h ≡ x → leb 1 (min h 10000) ≡ x
-    go true e = le-leb 1 (min h 10000) (omega (arith, leb-true 1 h e))
-    go false e = lt-leb 1 (min h 10000) (omega (arith, leb-false 1 h e))
-
-min-range : (h n : ℕ) → inRange (min h 10000) (min n 10000) ≡ inRange h n
-min-range h n = rw (min-high h, min-low n, min-high n)
-
+-- the answer is the same where counters above the range are read as 10,000
 min-said : (f : Position) (h n : ℕ) → recordSaid f (min h 10000) (min n 10000) ≡ recordSaid f h n
 min-said f h n = go (inRange h n) refl
   where
@@ -128,12 +114,3 @@ module _ (ed : Edition) (t : List ℕ) (j : ℕ) (c : Cut t (length t) j) (r : R
         answers ed t (take (i - 1) t) (take (j - 1 - i) (drop i t)) (take (length t - j) (drop j t))
         (last-field z ∙ ap (λ (l : List ℕ). l ++ (32 ∷ take (length t - j) (drop j t))) (cut-part t (j - 1) i k d h))
         (free-part t (j - 1) i k d) (free-part t (length t) j (omega arith) c) raw x y r a w p q
-
--- one byte more that is no space, in front
-pub free-more : (t : List ℕ) (n i : ℕ) → 0 < i → ((k : ℕ) → i ≤ k → k < n → getD t k 0 ≡ 32 → ⊥) → (getD t (i - 1) 0 ≡ 32 → ⊥)
-    → (k : ℕ) → i - 1 ≤ k → k < n → getD t k 0 ≡ 32 → ⊥
-free-more t n i z f g k h l e = go (leb i k) refl
-  where
-    go : (x : Bool) → leb i k ≡ x → ⊥
-    go true q = f k (leb-true i k q) l e
-    go false q = let y : k ≡ i - 1 = omega (arith, leb-false i k q) in g (ap (λ (j : ℕ). getD t j 0) (sym y) ∙ e)

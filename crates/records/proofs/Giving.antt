@@ -19,12 +19,14 @@ use Rattle.board.specs.declared.RetractableBoard.{RetractableBoard}
 use Rattle.board.specs.Gate.{keptBy}
 use Rattle.board.specs.Answers.{workedOf}
 use Rattle.board.specs.inner.Gates.{newOf}
+use Rattle.record_fields.specs.Counters.{inRange}
+use Rattle.record_fields.specs.Passed.{isKnown}
 use Rattle.records.specs.declared.Why.{Why}
 use Rattle.records.specs.declared.Why.the-variants.{Base, Counter, Unknown}
 use Rattle.records.specs.declared.Outcome.{Outcome}
 use Rattle.records.specs.declared.Outcome.the-variants.{Taken, Refused as notTaken}
 use Rattle.records.specs.declared.Recorded.{Recorded}
-use Rattle.records.specs.Entries.{whyNumber, outcomeNumber, inRange, numberFor, Gives, isKnown}
+use Rattle.records.specs.Entries.{whyNumber, outcomeNumber, numberFor, Gives}
 use Rattle.records.specs.inner.Answering.{noRecord, taken, recordedBy, recordSaid, knownSaid}
 
 -- document 01's numbers end with 14

@@ -1,6 +1,3 @@
-pub mod Decimals
-pub mod Splits
-pub mod Pawns
 pub mod Giving
 pub mod Parts
 pub mod Answering

@@ -2,16 +2,26 @@
 use mathlib.Core.Path.{_≡_, refl, sym, _∙_, ap, ap₂}
 use mathlib.Core.List.{List, _∷_, _++_, append-assoc}
 use Prim.Native.Nat.{ℕ}
+use Rattle.laws.specs.declared.EnPassantFlag.{EnPassantFlag}
+use Rattle.laws.specs.declared.EnPassantFlag.the-variants.{Any, Some, None}
 use Rattle.laws.specs.declared.Edition.{Edition}
 use Rattle.laws.specs.declared.Position.{Position}
-use Rattle.position_text.specs.Form.{printed, Says as FourSays}
+use Rattle.position_text.specs.Form.{printed, StateFits, Says as FourSays}
 use Rattle.position_text.proofs.Inverse.{says-one}
 use Rattle.rows.specs.Rows.{decimalOf}
-use Rattle.records.specs.Form.{StateNamed, Says}
-use Rattle.records.specs.inner.Answering.{withState, passedFields, pawnState}
-use Rattle.records.proofs.Decimals.{dec-same}
-use Rattle.records.proofs.Splits.{Free, free-decimal, cut-one}
-use Rattle.records.proofs.Pawns.{pawn-back, passed-fits}
+use Rattle.record_fields.specs.Passed.{passedState, StateNamed}
+use Rattle.record_fields.specs.inner.Pawns.{pawnState}
+use Rattle.record_fields.proofs.Decimals.{dec-same}
+use Rattle.record_fields.proofs.Splits.{Free, free-decimal, cut-one}
+use Rattle.record_fields.proofs.Pawns.{pawn-back, passed-low}
+use Rattle.records.specs.Form.{Says}
+use Rattle.records.specs.inner.Answering.{withState, passedFields}
+
+-- the square passed over is one of the board
+passed-fits : (e : EnPassantFlag) → StateFits (passedState e)
+passed-fits Any = tt
+passed-fits None = tt
+passed-fits (Some s) = passed-low s
 
 -- the four fields that a record's position prints
 pub four-said : (ed : Edition) (f : Position) (h n : ℕ) (t a : List ℕ) → Says ed f h n t → printed (passedFields f) ≡ a → FourSays ed (passedFields f) a

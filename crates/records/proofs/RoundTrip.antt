@@ -3,7 +3,7 @@ use mathlib.Core.Path.{_≡_, refl, sym, _∙_, ap, subst}
 use mathlib.Core.Logic.{_↔_}
 use mathlib.Core.Bool.{Bool, true, false, cond}
 use mathlib.Core.List.{List, [], _∷_}
-use Prim.Native.Nat.{ℕ, suc, _≤_, _<_}
+use Prim.Native.Nat.{ℕ, _≤_, _<_}
 use native.Mathlib.Omega.{arith}
 use lib.ListN.{length, take, drop}
 use lib.Seq.{take-at}
@@ -35,14 +35,15 @@ use Rattle.board.specs.Answers.{workedOf}
 use Rattle.board.proofs.Passing.{gate-sound, gate-judged}
 use Rattle.board.proofs.Numbers.{gate-passes, passed-gate}
 use Rattle.text.proofs.RoundTrip.{number-six, board-said, gate-worked}
-use Rattle.rows.specs.Rows.{decimalOf}
-use Rattle.rows.proofs.Decimals.{few-digits}
+use Rattle.record_fields.specs.Counters.{inRange}
+use Rattle.record_fields.specs.Passed.{StateNamed, isKnown}
+use Rattle.record_fields.proofs.Counters.{four-long}
+use Rattle.record_fields.proofs.Pawns.{named-known}
 use Rattle.records.specs.declared.Outcome.the-variants.{Taken}
 use Rattle.records.specs.declared.Recorded.{Recorded}
-use Rattle.records.specs.Form.{StateNamed, Says}
-use Rattle.records.specs.Entries.{outcomeNumber, inRange, numberFor, Reads, said, unsaid, isKnown, recordOn, WritesRecord}
+use Rattle.records.specs.Form.{Says}
+use Rattle.records.specs.Entries.{outcomeNumber, numberFor, Reads, said, unsaid, recordOn, WritesRecord}
 use Rattle.records.specs.inner.Answering.{taken, recordedBy, recordSaid}
-use Rattle.records.proofs.Pawns.{named-known}
 use Rattle.records.proofs.Giving.{verdict-low, gives-one, said-is, within-range}
 use Rattle.records.proofs.Parts.{says-same}
 use Rattle.records.proofs.Writing.{record-length}
@@ -171,9 +172,6 @@ write-after-read ed t r a h o after x w =
     subst (λ (s : List ℕ). Writes [] s o x after) (k .text) (writes-passed (gate-passes (r .board) (gateOf (r .board)) refl (k .gate)) v)
 
 -- a record that is taken has at most 91 bytes
-four-long : (x : ℕ) → x ≤ 9999 → length (decimalOf x) ≤ 4
-four-long x h = few-digits 3 (suc x) x (omega arith)
-
 pub taken-short : (ed : Edition) (t : List ℕ) (r : Recorded) → Reads ed t r → r .outcome ≡ Taken → length t ≤ 91
 taken-short ed t r a o =
     let k = took ed t r a o in

@@ -13,9 +13,10 @@ use Rattle.refusal.proofs.Writing.{no-value, no-room}
 use Rattle.board.specs.declared.RetractableBoard.{RetractableBoard}
 use Rattle.board.specs.Gate.{boardTests}
 use Rattle.board.proofs.Numbers.{above-seven}
+use Rattle.record_fields.specs.Passed.{isKnown}
 use Rattle.records.specs.declared.Written.{Written}
 use Rattle.records.specs.declared.Written.the-variants.{Count, Room, Refused}
-use Rattle.records.specs.Entries.{isKnown, recordOn, writtenSays, WritesRecord}
+use Rattle.records.specs.Entries.{recordOn, writtenSays, WritesRecord}
 use Rattle.records.proofs.Giving.{why-one}
 
 -- what is said settles the answer

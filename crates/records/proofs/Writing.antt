@@ -2,7 +2,7 @@
 use mathlib.Core.Path.{_≡_, refl, sym, _∙_, ap, ap₂, subst}
 use mathlib.Core.Bool.{Bool, true, false, cond}
 use mathlib.Core.List.{List, [], _∷_, _++_, append-assoc}
-use Prim.Native.Nat.{ℕ, suc, _+_, _≤_, _<_, min}
+use Prim.Native.Nat.{ℕ, _+_, _≤_, _<_, min}
 use native.Mathlib.Nat.{zero-add}
 use native.Mathlib.Omega.{arith}
 use lib.Dec.{leb}
@@ -31,17 +31,16 @@ use Rattle.output.specs.Appending.{putSays, usedOf, Puts, PutsDecimal, Adds}
 use Rattle.output.proofs.Added.{added-len, added-bytes, added-length}
 use Rattle.rows.specs.Rows.{decimalOf}
 use Rattle.output.proofs.Adding.{adds-then}
-use Rattle.rows.proofs.Decimals.{few-digits, decimal-added}
+use Rattle.rows.proofs.Decimals.{decimal-added}
+use Rattle.record_fields.specs.Passed.{passedState, isKnown}
+use Rattle.record_fields.proofs.Counters.{five-long}
 use Rattle.records.specs.declared.Why.the-variants.{Base, Unknown}
 use Rattle.records.specs.declared.Written.the-variants.{Count as count, Room as room, Refused as notWritten}
-use Rattle.records.specs.Form.{passedState, countersText, recordOf}
-use Rattle.records.specs.Entries.{whyNumber, isKnown, recordOn, writtenSays, WritesRecord}
+use Rattle.records.specs.Form.{countersText, recordOf}
+use Rattle.records.specs.Entries.{whyNumber, recordOn, writtenSays, WritesRecord}
 use Rattle.records.specs.inner.Answering.{passedFields}
 
--- any counter has at most five digits, and so a record at most 93 bytes
-five-long : (x : ℕ) → x < 65536 → length (decimalOf x) ≤ 5
-five-long x h = few-digits 4 (suc x) x (omega arith)
-
+-- the fields have at most 81 bytes and, as any counter has at most five digits, a record at most 93
 fields-short : (f : Position) → length (printed (passedFields f)) ≤ 81
 fields-short f = print-short (menIn f) (f .turn) (f .white) (f .black) (passedState (f .passant))
 

@@ -1,13 +1,11 @@
 -- What the two entries answer, by the documents' numbers: a record into a board and its counters, and back.
 use mathlib.Core.Path.{_≡_}
-use mathlib.Core.Bool.{Bool, true, false, cond}
+use mathlib.Core.Bool.{cond}
 use mathlib.Core.List.{List, [], _∷_, _++_}
 use Prim.Native.Nat.{ℕ}
-use lib.Dec.{eqb, leb}
+use lib.Dec.{eqb}
 use lib.ListN.{length, drop}
-use Rattle.squares.specs.Tests.{_and_}
 use Rattle.laws.specs.declared.EnPassantFlag.{EnPassantFlag}
-use Rattle.laws.specs.declared.EnPassantFlag.the-variants.{Any, Some, None}
 use Rattle.laws.specs.declared.Edition.{Edition}
 use Rattle.laws.specs.declared.Position.{Position}
 use Rattle.refusal.specs.declared.Refusal.the-variants.{Room as room, Text as text}
@@ -17,6 +15,8 @@ use Rattle.accept.specs.Verdicts.{rawTests}
 use Rattle.board.specs.declared.RetractableBoard.{RetractableBoard}
 use Rattle.board.specs.Gate.{positionOn, noBoard}
 use Rattle.board.specs.Answers.{workedOf}
+use Rattle.record_fields.specs.Counters.{inRange}
+use Rattle.record_fields.specs.Passed.{isKnown}
 use Rattle.records.specs.declared.Why.{Why}
 use Rattle.records.specs.declared.Why.the-variants.{Base, Counter, Unknown}
 use Rattle.records.specs.declared.Outcome.{Outcome}
@@ -36,10 +36,6 @@ whyNumber Unknown = 16
 abbrev pub outcomeNumber : Outcome → ℕ
 outcomeNumber Taken = 0
 outcomeNumber (notTaken w) = whyNumber w
-
--- "0 to 9,999 and 1 to 9,999"
-abbrev pub inRange : ℕ → ℕ → Bool
-inRange h n = leb h 9999 and leb 1 n and leb n 9999
 
 -- "15 COUNTER after 14", and then 1 to 6: the number for a record that says f, h and n
 abbrev pub numberFor : Position → ℕ → ℕ → ℕ
@@ -66,11 +62,6 @@ abbrev pub writtenSays : Written → Said
 writtenSays (Count n) = told (n ∷ [])
 writtenSays (Room n) = says (numberOf room) (n ∷ [])
 writtenSays (notWritten w) = says (whyNumber w) []
-
-abbrev pub isKnown : EnPassantFlag → Bool
-isKnown Any = false
-isKnown (Some s) = true
-isKnown None = true
 
 -- "16 UNKNOWN when the writer, after 1 to 7 and before 13, meets an unknown state": the record t of a board whose state is e goes into a lent
 -- slice that holds o, behind the tests ts; x is said, and where its number is 0 the slice then holds t and what stood beyond; "A refusal writes nothing"

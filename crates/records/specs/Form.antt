@@ -1,28 +1,15 @@
 -- The form of a record: "six-field FEN records from the PGN standard: en passant is the square passed over, and two counters follow". What the
 -- writer writes is the form, and the reader inverts it.
 use mathlib.Core.Path.{_≡_}
-use mathlib.Core.Bool.{cond}
 use mathlib.Core.List.{List, _∷_, _++_}
-use Prim.Native.Nat.{ℕ, _+_, _≤_, _<_}
-use lib.Dec.{ltb}
-use Rattle.squares.specs.Squares.{file}
-use Rattle.laws.specs.declared.EnPassantFlag.{EnPassantFlag}
-use Rattle.laws.specs.declared.EnPassantFlag.the-variants.{Any, Some, None}
+use Prim.Native.Nat.{ℕ}
 use Rattle.laws.specs.declared.Edition.{Edition}
 use Rattle.laws.specs.declared.Position.{Position}
 use Rattle.laws.specs.Positions.{termsOf}
 use Rattle.laws.specs.Boards.{menIn, Clean}
 use Rattle.position_text.specs.Form.{printOf}
 use Rattle.rows.specs.Rows.{decimalOf}
-
--- "the square passed over" by the pawn on s, on its file: on rank 3 behind one on rank 4, on rank 6 behind one on rank 5
-abbrev pub passedOf : ℕ → ℕ
-passedOf s = cond (ltb s 32) 16 40 + file s
-
-abbrev pub passedState : EnPassantFlag → EnPassantFlag
-passedState Any = Any
-passedState (Some s) = Some (passedOf s)
-passedState None = None
+use Rattle.record_fields.specs.Passed.{passedState, StateNamed}
 
 -- "two counters follow", "digits without leading zeros", each after a space
 abbrev pub countersText : ℕ → ℕ → List ℕ
@@ -31,12 +18,6 @@ countersText h n = 32 ∷ decimalOf h ++ (32 ∷ decimalOf n)
 -- the six fields: the four of a text, but with the square passed over for the pawn's own, and the counters
 abbrev pub recordOf : Position → ℕ → ℕ → List ℕ
 recordOf f h n = printOf (menIn f) (f .turn) (f .white) (f .black) (passedState (f .passant)) ++ countersText h n
-
--- "a passed-over square off ranks 3 and 6, or `?`, is 14": none, or a pawn on rank 4 or 5
-abbrev pub StateNamed : EnPassantFlag → Type 0
-StateNamed Any = ⊥
-StateNamed (Some s) = (24 ≤ s) × (s < 40)
-StateNamed None = Unit {0}
 
 -- the text t says the position f in the edition v, which the text does not name, and the counters h and n, whatever their size; the state
 -- of f is the pawn's own square

@@ -1,3 +1,1 @@
-pub mod Counting
-pub mod Splitting
 pub mod Answering

@@ -1,4 +1,4 @@
-// The cut into fields, the counters, the answer to a record, and the record in bytes.
+// The answer to a record, and the record in bytes.
 use super::Outcome;
 use super::Recorded;
 use super::Why;
@@ -11,113 +11,28 @@ use laws::Position;
 use output::Put;
 use position_text::Form;
 use position_text::Raw;
+use record_fields::inner::count;
+use record_fields::inner::in_range;
+use record_fields::inner::is_known;
+use record_fields::inner::last;
+use record_fields::inner::passed_state;
+use record_fields::inner::pawn_state;
 use refusal::Refusal;
 use refusal::Verdict;
 ghost use mathlib.Core.Path.{_≡_};
 ghost use mathlib.Core.List.{[]};
-ghost use Prim.Native.Nat.{_≤_};
-ghost use lib.ListN.{length, take};
+ghost use lib.ListN.{take};
 ghost use Rattle.io.specs.Counts.{Counts};
 ghost use Rattle.geometry.specs.Lines.{IsBetween};
 ghost use Rattle.refusal.specs.Said.{Writes};
-ghost use Rattle.records.specs.Form.{passedState, recordOf};
-ghost use Rattle.records.specs.Entries.{inRange, Reads, isKnown, recordOn, writtenSays, WritesRecord};
-ghost use Rattle.records.specs.inner.Counting.{Counted, countStep};
-ghost use Rattle.records.specs.inner.Splitting.{Cut};
-ghost use Rattle.records.specs.inner.Answering.{withState, pawnState, noRecord, recordedBy, recordSaid, knownSaid, answerOf};
-
-// The place behind the last space before `n`, or 0.
-fn last(t: &[u8], n: usize) -> usize
-    requires { ⌜ n ≤ length (now t) ⌝ }
-    ensures { λ r. ⌜ Cut (now (t .entry)) n r ⌝ }
-{
-    let mut i = n;
-    while 0 < i {
-        if t[i - 1] == b' ' {
-            return i;
-        }
-        i -= 1;
-    }
-    i
-}
-
-// One more byte of a counter, of which `s` was read: 10,001 stands for no byte yet, 10,002 for no counter.
-fn count_step(s: u16, b: u8) -> u16
-    requires { ⌜ s ≤ 10002 ⌝ }
-    ensures { λ r. ⌜ (r ≡ countStep s b) × (r ≤ 10002) ⌝ }
-{
-    if s == 10002 {
-        return 10002;
-    }
-    if b < b'0' {
-        return 10002;
-    }
-    if b'9' < b {
-        return 10002;
-    }
-    let d = (b - b'0') as u32;
-    if s == 10001 {
-        return d as u16;
-    }
-    if s == 0 {
-        return 10002;
-    }
-    let v = 10 * (s as u32) + d;
-    if v < 10000 { v as u16 } else { 10000 }
-}
-
-// The value of a counter, 10,000 where it is larger, however many digits it has, and more than that where there is no counter.
-fn count(t: &[u8]) -> u16
-    ensures { λ r. ⌜ Counted (now (t .entry)) r ⌝ }
-{
-    let mut s = 10001;
-    let mut i = 0;
-    while i < t.len() {
-        s = count_step(s, t[i]);
-        i += 1;
-    }
-    s
-}
-
-fn in_range(half: u16, full: u16) -> bool
-    ensures { λ r. ⌜ r ≡ inRange half full ⌝ }
-{
-    (half <= 9999) & (1 <= full) & (full <= 9999)
-}
-
-fn is_known(e: EnPassantFlag) -> bool
-    ensures { λ r. ⌜ r ≡ isKnown e ⌝ }
-{
-    match e {
-        EnPassantFlag::Any => false,
-        EnPassantFlag::None => true,
-        EnPassantFlag::Some(_) => true,
-    }
-}
+ghost use Rattle.records.specs.Form.{recordOf};
+ghost use Rattle.records.specs.Entries.{Reads, recordOn, writtenSays, WritesRecord};
+ghost use Rattle.records.specs.inner.Answering.{withState, noRecord, recordedBy, recordSaid, knownSaid, answerOf};
 
 fn with_state(p: Position, passant: EnPassantFlag) -> Position
     ensures { λ r. ⌜ r ≡ withState p passant ⌝ }
 {
     Position { passant, ..p }
-}
-
-// The state of the pawn that passed over a square; unknown where no pawn did.
-fn pawn_state(e: EnPassantFlag) -> EnPassantFlag
-    ensures { λ r. ⌜ r ≡ pawnState e ⌝ }
-{
-    match e {
-        EnPassantFlag::Any => EnPassantFlag::Any,
-        EnPassantFlag::None => EnPassantFlag::None,
-        EnPassantFlag::Some(q) => {
-            if q / 8 == 2 {
-                return EnPassantFlag::Some(q + 8);
-            }
-            if q / 8 == 5 {
-                return EnPassantFlag::Some(q - 8);
-            }
-            EnPassantFlag::Any
-        }
-    }
 }
 
 fn no_record(why: Why) -> Recorded
@@ -216,22 +131,6 @@ pub fn read(t: &[u64; 4096], text: &[u8], edition: Edition) -> Recorded
     let half = count(&text[i..k]);
     let full = count(&text[j..]);
     answer(t, raw, half, full)
-}
-
-// The state with the square passed over for the pawn's own.
-fn passed_state(e: EnPassantFlag) -> EnPassantFlag
-    ensures { λ r. ⌜ r ≡ passedState e ⌝ }
-{
-    match e {
-        EnPassantFlag::Any => EnPassantFlag::Any,
-        EnPassantFlag::None => EnPassantFlag::None,
-        EnPassantFlag::Some(s) => {
-            if s < 32 {
-                return EnPassantFlag::Some(16 + s % 8);
-            }
-            EnPassantFlag::Some(40 + s % 8)
-        }
-    }
 }
 
 // The record of a position's fields, which 96 bytes hold; answers how many it has.

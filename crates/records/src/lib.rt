@@ -1,5 +1,5 @@
 // Six-field records: a board and its two counters, read and written. What a record is stands in specs/Form and, in the request's own words, in
-// specs/Grammar; what the entries answer in specs/Entries.
+// specs/Grammar, over what record_fields says of its counters and of the square passed over; what the entries answer in specs/Entries.
 use board::RetractableBoard;
 use laws::Edition;
 use refusal::Refusal;
@@ -8,7 +8,7 @@ ghost use mathlib.Core.Path.{_≡_};
 ghost use Rattle.board.specs.Gate.{boardTests};
 ghost use Rattle.records.specs.Entries.{whyNumber, Reads, recordOn, writtenSays, WritesRecord};
 
-pub mod inner; // inner.rt: the cut into fields, the counters, the answer, and the record in bytes
+pub mod inner; // inner.rt: the answer to a record, and the record in bytes
 
 // Why a record is not read, or not written: a refusal of document 01, 15, 16.
 pub enum Why {

@@ -1,10 +1,12 @@
 -- What the reader makes of its parts, by which the code comes to what `Reads` says.
 use mathlib.Core.Bool.{cond}
-use Prim.Native.Nat.{ℕ, _+_, _-_, _/_}
-use lib.Dec.{eqb, ltb}
+use Prim.Native.Nat.{ℕ}
+use lib.Dec.{ltb}
 use Rattle.laws.specs.declared.EnPassantFlag.{EnPassantFlag}
-use Rattle.laws.specs.declared.EnPassantFlag.the-variants.{Any, Some, None}
 use Rattle.laws.specs.declared.Position.{Position}
+use Rattle.record_fields.specs.Counters.{inRange}
+use Rattle.record_fields.specs.Passed.{passedState, isKnown}
+use Rattle.record_fields.specs.inner.Pawns.{pawnState}
 use Rattle.refusal.specs.declared.Refusal.the-variants.{Text}
 use Rattle.refusal.specs.declared.Verdict.{Verdict}
 use Rattle.refusal.specs.declared.Verdict.the-variants.{Accepted, Refused}
@@ -18,8 +20,6 @@ use Rattle.records.specs.declared.Why.{Why}
 use Rattle.records.specs.declared.Why.the-variants.{Base, Counter}
 use Rattle.records.specs.declared.Outcome.the-variants.{Taken, Refused as notTaken}
 use Rattle.records.specs.declared.Recorded.{Recorded}
-use Rattle.records.specs.Form.{passedState}
-use Rattle.records.specs.Entries.{inRange, isKnown}
 
 -- a position with another state
 abbrev pub withState : Position → EnPassantFlag → Position
@@ -28,15 +28,6 @@ withState p e = record { pieces = p .pieces; colors = p .colors; turn = p .turn;
 -- the square passed over for the pawn's own
 abbrev pub passedFields : Position → Position
 passedFields p = withState p (passedState (p .passant))
-
--- and back: the pawn that passed over q, unknown where none did
-abbrev pub pawnOf : ℕ → EnPassantFlag
-pawnOf q = cond (eqb (q / 8) 2) (Some (q + 8)) (cond (eqb (q / 8) 5) (Some (q - 8)) Any)
-
-abbrev pub pawnState : EnPassantFlag → EnPassantFlag
-pawnState Any = Any
-pawnState (Some q) = pawnOf q
-pawnState None = None
 
 abbrev pub noRecord : Why → Recorded
 noRecord w = record { outcome = notTaken w; board = noBoard; half = 0; full = 0 }

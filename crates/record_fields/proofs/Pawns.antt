@@ -1,5 +1,6 @@
 -- The pawn's own square and the square passed over.
 use mathlib.Core.Path.{_≡_, refl, sym, _∙_}
+use mathlib.Core.Logic.{_⊎_, inl, inr}
 use mathlib.Core.Bool.{Bool, true, false, cond}
 use Prim.Native.Nat.{ℕ, _+_, _-_, _/_, _<_}
 use native.Mathlib.Omega.{arith}
@@ -8,10 +9,8 @@ use borrow.Author.Tests.{lt-ltb, le-ltb, ltb-true, ltb-false, eqb-true, eq-eqb, 
 use Rattle.squares.specs.Squares.{file, rank}
 use Rattle.laws.specs.declared.EnPassantFlag.{EnPassantFlag}
 use Rattle.laws.specs.declared.EnPassantFlag.the-variants.{Any, Some, None}
-use Rattle.position_text.specs.Form.{StateFits}
-use Rattle.records.specs.Form.{passedOf, passedState, StateNamed}
-use Rattle.records.specs.Entries.{isKnown}
-use Rattle.records.specs.inner.Answering.{pawnOf, pawnState}
+use Rattle.record_fields.specs.Passed.{passedOf, passedState, StateNamed, PassedOver, isKnown}
+use Rattle.record_fields.specs.inner.Pawns.{pawnOf, pawnState}
 
 pub pawn-back : (e : EnPassantFlag) → StateNamed e → pawnState (passedState e) ≡ e
 pawn-back Any k = absurd k
@@ -31,10 +30,8 @@ pawn-back (Some s) k = go (ltb s 32) refl
         simp (ne-eqb ((40 + file s) / 8) 2 (λ w. omega arith), eq-eqb ((40 + file s) / 8) 5 q, z)
 
 -- the square passed over is one of the board
-pub passed-fits : (e : EnPassantFlag) → StateFits (passedState e)
-passed-fits Any = tt
-passed-fits None = tt
-passed-fits (Some s) = go (ltb s 32)
+pub passed-low : (s : ℕ) → passedOf s < 64
+passed-low s = go (ltb s 32)
   where
     go : (x : Bool) → cond x 16 40 + file s < 64
     go true = omega arith
@@ -72,3 +69,19 @@ passed-fourth s h = rw (lt-ltb s 32 (omega arith)) (omega arith)
 
 pub passed-fifth : (s : ℕ) → rank s ≡ 4 → passedOf s ≡ s + 8
 passed-fifth s h = rw (le-ltb s 32 (omega arith)) (omega arith)
+
+-- the square passed over by a pawn on rank 4 or 5 is on rank 3 or 6, and every such square is passed over by one
+pub over-named : (e : EnPassantFlag) → StateNamed e → PassedOver (passedState e)
+over-named Any k = k
+over-named None k = tt
+over-named (Some s) k = go (ltb s 32) refl
+  where
+    go : (x : Bool) → ltb s 32 ≡ x → (rank (cond x 16 40 + file s) ≡ 2) ⊎ (rank (cond x 16 40 + file s) ≡ 5)
+    go true e = inl (omega arith)
+    go false e = inr (omega arith)
+
+pub named-over : (q : EnPassantFlag) → PassedOver q → isKnown (pawnState q) ≡ true
+named-over Any k = absurd k
+named-over None k = refl
+named-over (Some q) (inl e) = rw (eq-eqb (rank q) 2 e)
+named-over (Some q) (inr e) = rw (ne-eqb (rank q) 2 (λ z. omega arith), eq-eqb (rank q) 5 e)

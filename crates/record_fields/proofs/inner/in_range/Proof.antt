@@ -1,8 +1,8 @@
--- `records::inner::in_range` meets its contract.
+-- `record_fields::inner::in_range` meets its contract.
 use mathlib.Core.Path.{refl}
 use Rattle.squares.specs.Tests.{_and_}
-use Rattle.records.proofs.inner.in_range.Statement.{statement}
-use Rattle.records.proofs.inner.in_range.Tie as tie
+use Rattle.record_fields.proofs.inner.in_range.Statement.{statement}
+use Rattle.record_fields.proofs.inner.in_range.Tie as tie
 
 returns : tie.Need-returns
 unfolding _and_

@@ -1,13 +1,16 @@
 -- A record is cut at its last two spaces, and in no other way.
 use mathlib.Core.Path.{_≡_, refl, sym, _∙_, ap, ap₂, subst}
+use mathlib.Core.Bool.{Bool, true, false}
 use mathlib.Core.List.{List, [], _∷_, _++_}
 use Prim.Native.Nat.{ℕ, suc, _+_, _-_, _≤_, _<_}
 use native.Mathlib.Omega.{arith}
+use lib.Dec.{leb}
 use lib.ListN.{length, getD, take, drop, length-drop}
 use lib.Seq.{drop-cons, length-take-le, getD-drop, getD-take, take-add}
+use borrow.Author.Tests.{leb-true, leb-false}
 use Rattle.rows.specs.Rows.{decimalOf}
-use Rattle.records.specs.inner.Splitting.{Cut}
-use Rattle.records.proofs.Decimals.{Digits, dec-digits}
+use Rattle.record_fields.specs.inner.Splitting.{Cut}
+use Rattle.record_fields.proofs.Decimals.{Digits, dec-digits}
 
 -- no byte is a space
 unfoldable pub Free : List ℕ → Type 0
@@ -65,3 +68,12 @@ module _ (t : List ℕ) (n r : ℕ) (fit : n ≤ length t) (c : Cut t n r) where
 
   pub free-whole : r ≡ 0 → Free (take n t)
   free-whole e = let z : n - r ≡ n = omega arith in subst Free (ap₂ (λ (x y : ℕ). take x (drop y t)) z e) free-part
+
+-- one byte more that is no space, in front
+pub free-more : (t : List ℕ) (n i : ℕ) → 0 < i → ((k : ℕ) → i ≤ k → k < n → getD t k 0 ≡ 32 → ⊥) → (getD t (i - 1) 0 ≡ 32 → ⊥)
+    → (k : ℕ) → i - 1 ≤ k → k < n → getD t k 0 ≡ 32 → ⊥
+free-more t n i z f g k h l e = go (leb i k) refl
+  where
+    go : (x : Bool) → leb i k ≡ x → ⊥
+    go true q = f k (leb-true i k q) l e
+    go false q = let y : k ≡ i - 1 = omega (arith, leb-false i k q) in g (ap (λ (j : ℕ). getD t j 0) (sym y) ∙ e)

@@ -1,11 +1,11 @@
--- `records::inner::count_step` meets its contract.
+-- `record_fields::inner::count_step` meets its contract.
 use borrow.Author.Needs.{needs}
 use native.Mathlib.Omega.{arith}
 use borrow.Author.Tests.{eq-eqb, ne-eqb, lt-ltb, le-ltb}
-use Rattle.records.specs.inner.Counting.{countStep}
-use Rattle.records.proofs.Decimals.{step-value}
-use Rattle.records.proofs.inner.count_step.Statement.{statement}
-use Rattle.records.proofs.inner.count_step.Tie as tie
+use Rattle.record_fields.specs.inner.Counting.{countStep}
+use Rattle.record_fields.proofs.Decimals.{step-value}
+use Rattle.record_fields.proofs.inner.count_step.Statement.{statement}
+use Rattle.record_fields.proofs.inner.count_step.Tie as tie
 
 returns : tie.Need-returns
 unfolding countStep

@@ -1,12 +1,12 @@
--- `records::inner::last` meets its contract.
+-- `record_fields::inner::last` meets its contract.
 use mathlib.Core.Path.{_≡_}
 use Prim.Native.Nat.{ℕ, _-_, _≤_, _<_}
 use native.Mathlib.Omega.{arith}
 use lib.ListN.{getD}
 use denote.Ref.{now}
-use Rattle.records.proofs.Answering.{free-more}
-use Rattle.records.proofs.inner.last.Statement.{statement}
-use Rattle.records.proofs.inner.last.Tie as tie
+use Rattle.record_fields.proofs.Splits.{free-more}
+use Rattle.record_fields.proofs.inner.last.Statement.{statement}
+use Rattle.record_fields.proofs.inner.last.Tie as tie
 
 abbrev Inv-loop : tie.InvT-loop
 Inv-loop t n i₀ i = (i ≤ n) × ((k : ℕ) → i ≤ k → k < n → getD t k 0 ≡ 32 → ⊥)

@@ -11,7 +11,7 @@ use lib.Seq.{drop-cons, drop-length}
 use borrow.Author.Tests.{lt-ltb, le-ltb, ltb-true, ltb-false, ne-eqb, eqb-true, eqb-false}
 use Rattle.io.specs.Digits.{glyph}
 use Rattle.rows.specs.Rows.{decimalIn, decimalOf}
-use Rattle.records.specs.inner.Counting.{Counted, counted, uncounted, countStep, countRun}
+use Rattle.record_fields.specs.inner.Counting.{Counted, counted, uncounted, countStep, countRun}
 
 -- more steps than there are digits change nothing
 by-same : (k j n : ℕ) → n < k → n < j → decimalIn k n ≡ decimalIn j n

@@ -1,13 +1,13 @@
--- `records::inner::count` meets its contract.
+-- `record_fields::inner::count` meets its contract.
 use mathlib.Core.Path.{_≡_, refl, sym, _∙_, subst}
 use Prim.Native.Nat.{ℕ, _-_, _≤_}
 use native.Mathlib.Omega.{arith}
 use lib.ListN.{length, drop}
-use Rattle.records.specs.inner.Counting.{Counted, countRun}
-use Rattle.records.proofs.Decimals.{run-step, run-done, walk-counted}
+use Rattle.record_fields.specs.inner.Counting.{Counted, countRun}
+use Rattle.record_fields.proofs.Decimals.{run-step, run-done, walk-counted}
 use denote.Ref.{now}
-use Rattle.records.proofs.inner.count.Statement.{statement}
-use Rattle.records.proofs.inner.count.Tie as tie
+use Rattle.record_fields.proofs.inner.count.Statement.{statement}
+use Rattle.record_fields.proofs.inner.count.Tie as tie
 
 abbrev Inv-loop : tie.InvT-loop
 Inv-loop t s₀ i₀ s i = (i ≤ length t) × (s ≤ 10002) × (countRun s (drop i t) ≡ countRun 10001 t)

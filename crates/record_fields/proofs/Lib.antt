@@ -1,0 +1,4 @@
+pub mod Decimals
+pub mod Counters
+pub mod Splits
+pub mod Pawns

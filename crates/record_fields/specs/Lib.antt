@@ -1,0 +1,3 @@
+pub mod Counters
+pub mod Passed
+pub mod inner
