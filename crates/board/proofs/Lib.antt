@@ -2,4 +2,3 @@ pub mod Saying
 pub mod Passing
 pub mod Moving
 pub mod Numbers
-pub mod Places

@@ -7,12 +7,13 @@ use Prim.Native.Nat.{ℕ, _<_}
 use borrow.Author.Tests.{eq-eqb}
 use Rattle.laws.specs.declared.ChessRetraction.{ChessRetraction}
 use Rattle.laws.specs.declared.EnPassantFlag.{EnPassantFlag}
+use Rattle.laws.specs.declared.Board.{Board}
 use Rattle.laws.specs.Men.{Men}
 use Rattle.laws.specs.Attacks.{unionOf, checkersOf, pinsOf}
 use Rattle.laws.specs.Positions.{Pos}
 use Rattle.laws.specs.Acceptance.{kingsOk, accepted}
 use Rattle.laws.specs.Unmaking.{unmade}
-use Rattle.laws.specs.Boards.{menAt, menIn, posAt, kindSets, colorSets, Clean, Board, fieldsOf, boardOf}
+use Rattle.laws.specs.Boards.{menAt, menIn, posAt, kindSets, colorSets, Clean, fieldsOf, posOf, boardOf}
 use Rattle.refusal.specs.declared.Refusal.the-variants.{Stale, Source, Target, Held, Step}
 use Rattle.refusal.specs.declared.Verdict.the-variants.{Accepted}
 use Rattle.refusal.specs.Refusals.{verdictNumber, unless, andThen}
@@ -27,7 +28,7 @@ use Rattle.replay.specs.Replayed.{replayedFor, replayTo}
 use Rattle.incremental.specs.Moved.{rustMoved}
 use Rattle.incremental.specs.Found.{foundStored, rustUnmade}
 use Rattle.board.specs.declared.RetractableBoard.{RetractableBoard}
-use Rattle.board.specs.Gate.{positionOn, menOn, posOn, toLaws, freshOn, gateOf, boardTests, positionFrom, boardedBy}
+use Rattle.board.specs.Gate.{positionOn, posOn, toLaws, freshOn, gateOf, boardTests, positionFrom, boardedBy}
 use Rattle.board.specs.inner.Gates.{Sound, Kept, boardedOf, unmakeGate, replayGate, replayedBoard}
 use Rattle.board.specs.Answers.{workedOf, withPassant}
 use Rattle.board.specs.Moving.{unmakeTests, unmadeOn, earlierTests, replayTests, replayedOn}
@@ -107,23 +108,23 @@ module _ (b : RetractableBoard) (r : ChessRetraction) (h : gateOf b ≡ Accepted
       unmade-rust = worked-shown ∙ sym (clean-same (toLaws b) r ok (gate-passed b h .union-is) lawful can)
 
       -- a board whose sets went back by the Rust's statements
-      module _ (z : RetractableBoard) (e : toLaws z ≡ rustMoved (toLaws b) r) where
-        moved-to : toLaws z ≡ foundStored (boardOf (unmade (posOn b) r)) 0 0
+      module _ (z : Board) (e : z ≡ rustMoved (toLaws b) r) where
+        moved-to : z ≡ foundStored (boardOf (unmade (posOn b) r)) 0 0
         moved-to = e ∙ moved-same (toLaws b) r ok (gate-passed b h .union-is) lawful can
 
         -- its men are clean and have their kings
-        pub moved-sound : Sound (positionOn z)
+        pub moved-sound : Sound (fieldsOf z)
         unfolding foundStored unmadeFor positionOf
         moved-sound =
             subst (λ (x : Board). Sound (fieldsOf x)) (sym moved-to) (record { clean = unmade-clean (positionOn b) r can; kings = five .passes .kings })
 
         -- with checkers and pins worked afresh it is the board before the retraction
-        pub searched-is : (x : RetractableBoard) → toLaws x ≡ foundStored (toLaws z) (checkersOf (menOn z) (z .turn)) (pinsOf (menOn z) (z .turn)) → x ≡ unmadeOn b r
+        pub searched-is : (x : RetractableBoard) → toLaws x ≡ foundStored z (checkersOf (posOf z .men) (z .turn)) (pinsOf (posOf z .men) (z .turn)) → x ≡ unmadeOn b r
         unfolding foundStored unmadeFor positionOf
         searched-is x f =
             laws-one x (unmadeOn b r)
             (f
-            ∙ ap (λ (y : Board). foundStored y (checkersOf (menAt (y .pieces) (y .colors)) (y .turn)) (pinsOf (menAt (y .pieces) (y .colors)) (y .turn))) moved-to
+            ∙ ap (λ (y : Board). foundStored y (checkersOf (posOf y .men) (y .turn)) (pinsOf (posOf y .men) (y .turn))) moved-to
             ∙ ap (λ (m : Men). foundStored (boardOf (unmade (posOn b) r)) (checkersOf m (unmade (posOn b) r .turn)) (pinsOf m (unmade (posOn b) r .turn))) shown
             ∙ sym worked-shown)
 

@@ -4,7 +4,6 @@ use Prim.Native.Nat.{ℕ}
 use lib.Dec.{ltb}
 use Rattle.laws.specs.declared.Position.{Position}
 use Rattle.laws.specs.declared.EnPassantFlag.{EnPassantFlag}
-use Rattle.laws.specs.declared.EnPassantFlag.the-variants.{Any, Some, None}
 use Rattle.laws.specs.Men.{Man, empty, man}
 use Rattle.laws.specs.Attacks.{unionOf, checkersOf, pinsOf}
 use Rattle.laws.specs.Acceptance.{stateOk}
@@ -58,9 +57,3 @@ withPassant b st = record {
   passant = st;
   terms = b .terms;
 }
-
--- `set_uncertain_ep`: none becomes unknown, all else stays
-abbrev pub uncertain : EnPassantFlag → EnPassantFlag
-uncertain Any = Any
-uncertain (Some q) = Some q
-uncertain None = Any

@@ -11,9 +11,10 @@ use Rattle.laws.specs.declared.EnPassantFlag.the-variants.{Any}
 use Rattle.laws.specs.declared.Edition.{Edition}
 use Rattle.laws.specs.declared.Edition.the-variants.{A}
 use Rattle.laws.specs.declared.Position.{Position}
+use Rattle.laws.specs.declared.Board.{Board}
 use Rattle.laws.specs.Men.{Men}
 use Rattle.laws.specs.Positions.{Pos, termsOf}
-use Rattle.laws.specs.Boards.{menIn, posAt, Board, fieldsOf, freshOk}
+use Rattle.laws.specs.Boards.{menIn, posAt, fieldsOf, freshOk}
 use Rattle.refusal.specs.declared.Refusal.the-variants.{Stale}
 use Rattle.refusal.specs.declared.Verdict.{Verdict}
 use Rattle.refusal.specs.declared.Verdict.the-variants.{Accepted, Refused}

@@ -1,6 +1,7 @@
 // The gate, what stands beside its verdict, and a board from raw men, over a lent table of squares between.
 use super::Boarded;
 use super::RetractableBoard;
+use laws::Board;
 use laws::EnPassantFlag;
 use laws::Position;
 use refusal::Refusal;
@@ -8,11 +9,11 @@ use refusal::Verdict;
 ghost use mathlib.Core.Path.{_≡_};
 ghost use mathlib.Core.Bool.{not};
 ghost use Rattle.geometry.specs.Lines.{IsBetween};
-ghost use Rattle.board.specs.Gate.{positionOn, freshOn, staleAfter, gateOf, keptBy, boardedBy};
+ghost use Rattle.board.specs.Gate.{toLaws, positionOn, freshOn, staleAfter, gateOf, keptBy, boardedBy};
 ghost use Rattle.board.specs.inner.Gates.{Sound, Kept, newOf, askGate, stateGate, earlierOf};
 ghost use Rattle.board.specs.Answers.{workedOf};
 
-pub mod moving; // moving.rt: what un-make refuses, and replay of a board
+pub mod moving; // moving.rt: un-make and replay of a board
 
 // The board where nothing is refused, else the empty one.
 pub fn kept(v: Verdict, b: RetractableBoard) -> RetractableBoard
@@ -30,6 +31,56 @@ pub fn board_by(v: Verdict, b: RetractableBoard) -> Boarded
 {
     let board = kept(v, b);
     Boarded { verdict: v, board }
+}
+
+// The board as the Laws' board of the same fields.
+pub(super) fn to_laws(b: RetractableBoard) -> Board
+    ensures { λ r. ⌜ r ≡ toLaws b ⌝ }
+{
+    let pieces = b.pieces;
+    let colors = b.colors;
+    let turn = b.turn;
+    let white = b.white;
+    let black = b.black;
+    let passant = b.passant;
+    let terms = b.terms;
+    Board {
+        pieces,
+        colors,
+        combined: b.combined,
+        turn,
+        white,
+        black,
+        pinned: b.pinned,
+        checkers: b.checkers,
+        passant,
+        terms,
+    }
+}
+
+// And back.
+fn from_laws(b: Board) -> RetractableBoard
+    ensures { λ r. ⌜ toLaws r ≡ b ⌝ }
+{
+    let pieces = b.pieces;
+    let colors = b.colors;
+    let turn = b.turn;
+    let white = b.white;
+    let black = b.black;
+    let passant = b.passant;
+    let terms = b.terms;
+    RetractableBoard {
+        pieces,
+        colors,
+        combined: b.combined,
+        turn,
+        white,
+        black,
+        pinned: b.pinned,
+        checkers: b.checkers,
+        passant,
+        terms,
+    }
 }
 
 // A board's fields without the worked-out ones.

@@ -13,16 +13,16 @@ ghost use mathlib.Core.Path.{_≡_};
 ghost use mathlib.Core.List.{_++_};
 ghost use Prim.Native.Nat.{_<_};
 ghost use Rattle.laws.specs.Attacks.{attackersOf, attacked};
+ghost use Rattle.laws.specs.Positions.{uncertain};
 ghost use Rattle.laws.specs.Boards.{Clean};
 ghost use Rattle.accept.specs.Verdicts.{rawTests};
 ghost use Rattle.board.specs.Gate.{menOn, posOn, boardTests, positionFrom, noBoard};
 ghost use Rattle.board.specs.Said.{Boards, Tells, pieceSays, attackersSays, attackedSays};
 ghost use Rattle.board.specs.declared.Attackers.the-variants.{Set};
-ghost use Rattle.board.specs.Answers.{workedOf, askTests, kindOn, stateTests, withPassant, uncertain};
+ghost use Rattle.board.specs.Answers.{workedOf, askTests, kindOn, stateTests, withPassant};
 ghost use Rattle.board.specs.inner.Gates.{kindRead, toldBy, toldOf};
 ghost use Rattle.board.specs.Moving.{unmakeTests, unmadeOn, replayTests, replayedOn};
 
-mod back; // back.rt: how the board's own sets go back
 pub mod inner; // inner.rt: the gate over a lent table
 
 // Six sets by kind and two by colour; the worked-out union, pins and checkers; the turn, each colour's rights, the en passant
@@ -215,7 +215,7 @@ impl RetractableBoard {
         let t = tables::between_table();
         let v = inner::gate(&t, self);
         let state = self.passant;
-        let passant = uncertain_of(state);
+        let passant = laws::inner::uncertain_of(state);
         self = RetractableBoard { passant, ..self };
         inner::board_by(v, self)
     }
@@ -229,7 +229,7 @@ impl RetractableBoard {
         match v {
             Verdict::Refused(w) => inner::board_by(Verdict::Refused(w), no_board()),
             Verdict::Accepted => {
-                self = self.unmade(&t, r);
+                self = inner::moving::unmade(&t, self, r);
                 inner::board_by(v, self)
             }
         }
@@ -243,17 +243,6 @@ impl RetractableBoard {
         let z = inner::moving::replayed(&t, self, r, kind);
         self = z.board;
         Boarded { board: self, ..z }
-    }
-}
-
-// None becomes unknown.
-fn uncertain_of(passant: EnPassantFlag) -> EnPassantFlag
-    ensures { λ r. ⌜ r ≡ uncertain passant ⌝ }
-{
-    match passant {
-        EnPassantFlag::Any => EnPassantFlag::Any,
-        EnPassantFlag::Some(sq) => EnPassantFlag::Some(sq),
-        EnPassantFlag::None => EnPassantFlag::Any,
     }
 }
 
@@ -287,7 +276,8 @@ fn kind_on(b: RetractableBoard, sq: u8) -> PieceOn
     ensures { λ r. ⌜ r ≡ kindRead b sq ⌝ }
 {
     if squares::has(b.combined, sq) {
-        return PieceOn::Kind(back::piece_at(b, sq));
+        let x = inner::to_laws(b);
+        return PieceOn::Kind(back::inner::piece_at(x, sq));
     }
     PieceOn::Nobody
 }

@@ -7,11 +7,12 @@ use Rattle.geometry.specs.Colors.{opp}
 use Rattle.laws.specs.declared.Piece.{Piece}
 use Rattle.laws.specs.declared.Piece.the-variants.{King}
 use Rattle.laws.specs.declared.ChessRetraction.{ChessRetraction}
+use Rattle.laws.specs.declared.Board.{Board}
 use Rattle.laws.specs.Attacks.{unionOf}
 use Rattle.laws.specs.Positions.{Pos, retractor}
 use Rattle.laws.specs.Acceptance.{accepted}
 use Rattle.laws.specs.Unmaking.{unmade}
-use Rattle.laws.specs.Boards.{Board, Shaped, Clean, posOf, boardOf, acceptedBoard}
+use Rattle.laws.specs.Boards.{Shaped, Clean, posOf, boardOf, acceptedBoard}
 use Rattle.men.specs.inner.Standing.{menOf}
 use Rattle.pins.specs.inner.Kings.{TheKing}
 use Rattle.incremental.specs.Found.{foundStored, rustFound, rustUnmade}

@@ -16,10 +16,11 @@ use Rattle.geometry.specs.Steps.{knightStep, pawnTakes}
 use Rattle.laws.specs.declared.Piece.{Piece}
 use Rattle.laws.specs.declared.Piece.the-variants.{Pawn, Knight, Bishop, Rook, Queen, King}
 use Rattle.laws.specs.declared.ChessRetraction.{ChessRetraction}
+use Rattle.laws.specs.declared.Board.{Board}
 use Rattle.laws.specs.Men.{Man, man, Men, isOf, isKind, sameMan}
 use Rattle.laws.specs.Attacks.{slides}
 use Rattle.laws.specs.Positions.{Pos}
-use Rattle.laws.specs.Boards.{Board, kindSet, colorSet, kindSets, colorSets, Clean, menAt, boardOf}
+use Rattle.laws.specs.Boards.{kindSet, colorSet, kindSets, colorSets, Clean, menAt, boardOf}
 use Rattle.men.specs.inner.Standing.{menOf}
 use Rattle.pins.specs.inner.Kings.{snipersOf}
 use Rattle.geometry.specs.Chess.{knightMoves, pawnAttacks}

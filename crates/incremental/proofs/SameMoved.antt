@@ -21,9 +21,10 @@ use Rattle.laws.specs.declared.Side.the-variants.{Short as short, Long as long}
 use Rattle.laws.specs.Acceptance.{accepted}
 use Rattle.laws.specs.declared.Way.{Way}
 use Rattle.laws.specs.declared.Way.the-variants.{Plain as plain, Passant as passant, Castle as castling}
+use Rattle.laws.specs.declared.Board.{Board}
 use Rattle.laws.specs.Moves.{way, markOk, goes}
 use Rattle.laws.specs.Unmaking.{leaving, promotedTo, undoable, regained, unmadeBy, wayBack, unmade}
-use Rattle.laws.specs.Boards.{Board, Clean, kindSets, colorSets, posOf, boardOf}
+use Rattle.laws.specs.Boards.{Clean, kindSets, colorSets, posOf, boardOf}
 use Rattle.incremental.specs.Moved.{pieceOn, openedOf, steppedOf, uncapturedOf, isUncastling, rightsStored, uncastledOf, isPassantUncapture, passantStored, rebornOf, rustMoved}
 use Rattle.incremental.specs.Found.{foundStored}
 use Rattle.squares.proofs.Testing.{left}

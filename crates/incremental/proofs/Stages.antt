@@ -22,8 +22,8 @@ use Rattle.laws.specs.declared.Side.{Side}
 use Rattle.laws.specs.declared.Side.the-variants.{Short as short, Long as long}
 use Rattle.laws.specs.Positions.{kingHome, corner, kingTo, rookTo}
 use Rattle.laws.specs.declared.Way.the-variants.{Passant as passant, Castle as castling}
+use Rattle.laws.specs.declared.Board.{Board}
 use Rattle.laws.specs.Unmaking.{before, leaving}
-use Rattle.laws.specs.Boards.{Board}
 use Rattle.incremental.specs.Moved.{xorOf, retractionBb, steppedOf, uncapturedOf, isUncastling, rightsStored, rookedOf, uncastledOf, isPassantUncapture, passantStored, rebornOf}
 use Rattle.laws.proofs.Puts.{put-at, put-off, over, Done}
 use Rattle.laws.proofs.StateBack.{Around}

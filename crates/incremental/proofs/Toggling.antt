@@ -13,9 +13,10 @@ use Rattle.geometry.specs.declared.Color.{Color}
 use Rattle.geometry.specs.declared.Color.the-variants.{White, Black}
 use Rattle.laws.specs.declared.Piece.{Piece}
 use Rattle.laws.specs.declared.Piece.the-variants.{Pawn, Knight, Bishop, Rook, Queen, King}
+use Rattle.laws.specs.declared.Board.{Board}
 use Rattle.laws.specs.Men.{Man, empty, man, Men, colorPlace, kindPlace, isEmpty, isOf, isKind, put}
 use Rattle.laws.specs.Attacks.{unionOf}
-use Rattle.laws.specs.Boards.{Board, kindSet, colorSet, kindSets, colorSets}
+use Rattle.laws.specs.Boards.{kindSet, colorSet, kindSets, colorSets}
 use Rattle.incremental.specs.Moved.{isPiece, xorOf}
 use Rattle.squares.proofs.Digits.{differs, has-xor}
 use Rattle.squares.proofs.Comprehension.{upTo-lt, is-upTo, has-setOf}

@@ -22,9 +22,10 @@ use Rattle.laws.specs.declared.Side.{Side}
 use Rattle.laws.specs.declared.Side.the-variants.{Short as short, Long as long}
 use Rattle.laws.specs.declared.Way.{Way}
 use Rattle.laws.specs.declared.Way.the-variants.{Plain as plain, Passant as passant, Castle as castling}
+use Rattle.laws.specs.declared.Board.{Board}
 use Rattle.laws.specs.Moves.{way, markOk, moves, goes}
 use Rattle.laws.specs.Unmaking.{leaving, promotedTo, undoable}
-use Rattle.laws.specs.Boards.{Board, kindSet, menAt, Clean}
+use Rattle.laws.specs.Boards.{kindSet, menAt, Clean}
 use Rattle.incremental.specs.Moved.{isPiece, pieceOn, castleMoves, isUncastling, isPassantUncapture}
 use Rattle.squares.proofs.Testing.{both, left, right, failed, bool-ext}
 use Rattle.squares.proofs.Digits.{differs, has-and, has-xor}

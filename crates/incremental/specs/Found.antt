@@ -14,7 +14,8 @@ use Rattle.geometry.specs.Lines.{straight, diagonal, betweenOf}
 use Rattle.laws.specs.declared.Piece.{Piece}
 use Rattle.laws.specs.declared.Piece.the-variants.{Pawn, Knight, Bishop, Rook, Queen, King}
 use Rattle.laws.specs.declared.ChessRetraction.{ChessRetraction}
-use Rattle.laws.specs.Boards.{Board, kindSet, colorSet}
+use Rattle.laws.specs.declared.Board.{Board}
+use Rattle.laws.specs.Boards.{kindSet, colorSet}
 use Rattle.geometry.specs.Chess.{knightMoves, pawnAttacks}
 use Rattle.incremental.specs.Moved.{isPiece, isPassantUncapture, pieceOn, rustMoved}
 

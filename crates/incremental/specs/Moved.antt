@@ -17,8 +17,9 @@ use Rattle.laws.specs.declared.CastleRights.the-variants.{KingSide, QueenSide}
 use Rattle.laws.specs.declared.EnPassantFlag.{EnPassantFlag}
 use Rattle.laws.specs.declared.EnPassantFlag.the-variants.{Any, Some}
 use Rattle.laws.specs.declared.ChessRetraction.{ChessRetraction}
+use Rattle.laws.specs.declared.Board.{Board}
 use Rattle.laws.specs.Men.{Man, empty, man, kindNumber, colorPlace, kindPlace, numbered}
-use Rattle.laws.specs.Boards.{Board, kindSet, colorSet}
+use Rattle.laws.specs.Boards.{kindSet, colorSet}
 
 -- `piece == Piece::K`
 abbrev pub isPiece : Piece → Piece → Bool

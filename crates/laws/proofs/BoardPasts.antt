@@ -19,11 +19,12 @@ use Rattle.laws.specs.Positions.{Rights, holds, rightsOf, rightsFor, Pos
 use Rattle.laws.specs.Acceptance.{accepted}
 use Rattle.laws.specs.declared.Way.{Way}
 use Rattle.laws.specs.declared.Way.the-variants.{Plain as plain, Passant as passant, Castle as castling}
+use Rattle.laws.specs.declared.Board.{Board}
 use Rattle.laws.specs.Unmaking.{before, wayBack, unmade, undoable}
 use Rattle.laws.specs.Strictness.{Gives, strict}
 use Rattle.laws.specs.Retractions.{InRange}
 use Rattle.laws.specs.StrictLists.{place, strictPlaces, In}
-use Rattle.laws.specs.Boards.{menAt, Board, posOf, Shaped, acceptedBoard, kindSets, colorSets, boardOf, BoardPast}
+use Rattle.laws.specs.Boards.{menAt, posOf, Shaped, acceptedBoard, kindSets, colorSets, boardOf, BoardPast}
 use Rattle.squares.proofs.Testing.{both, left}
 use Rattle.laws.proofs.Boundaries.{behind-in, corner-in, rookTo-in}
 use Rattle.laws.proofs.Puts.{off}

@@ -15,8 +15,9 @@ use Rattle.geometry.specs.declared.Color.{Color}
 use Rattle.geometry.specs.declared.Color.the-variants.{White, Black}
 use Rattle.laws.specs.declared.Piece.{Piece}
 use Rattle.laws.specs.declared.Piece.the-variants.{Pawn, Knight, Bishop, Rook, Queen, King}
+use Rattle.laws.specs.declared.Board.{Board}
 use Rattle.laws.specs.Men.{Man, isOf, isKind}
-use Rattle.laws.specs.Boards.{kindSet, colorSet, kindBy, manBy, menAt, kindsAt, colorsAt, menOk, kindSets, colorSets, Clean, Board, Shaped}
+use Rattle.laws.specs.Boards.{kindSet, colorSet, kindBy, manBy, menAt, kindsAt, colorsAt, menOk, kindSets, colorSets, Clean, Shaped}
 use Rattle.squares.proofs.Testing.{agree, agree-eq}
 use Rattle.squares.proofs.Comprehension.{is-upTo}
 use Rattle.squares.proofs.Every.{all-at}

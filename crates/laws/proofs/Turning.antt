@@ -24,10 +24,11 @@ use Rattle.laws.specs.Positions.{Pos, retractor}
 use Rattle.laws.specs.Acceptance.{beside, noted, stateOk, accepted}
 use Rattle.laws.specs.declared.Way.{Way}
 use Rattle.laws.specs.declared.Way.the-variants.{Plain as plain, Passant as passant, Castle as castling}
+use Rattle.laws.specs.declared.Board.{Board}
 use Rattle.laws.specs.Moves.{way, goes, stateAfter}
 use Rattle.laws.specs.Unmaking.{before, unmade, undoable}
 use Rattle.laws.specs.Strictness.{agrees, Past, strict}
-use Rattle.laws.specs.Boards.{Board, posOf, BoardPast}
+use Rattle.laws.specs.Boards.{posOf, BoardPast}
 use Rattle.laws.specs.Editions.{otherEdition, turnedState, turned}
 use Rattle.squares.proofs.Testing.{both, left, right, and-false}
 use Rattle.squares.proofs.Every.{any-cong}

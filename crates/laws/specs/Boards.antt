@@ -12,10 +12,8 @@ use Rattle.geometry.specs.declared.Color.{Color}
 use Rattle.geometry.specs.declared.Color.the-variants.{White, Black}
 use Rattle.laws.specs.declared.Piece.{Piece}
 use Rattle.laws.specs.declared.Piece.the-variants.{Pawn, Knight, Bishop, Rook, Queen, King}
-use Rattle.laws.specs.declared.CastleRights.{CastleRights}
-use Rattle.laws.specs.declared.EnPassantFlag.{EnPassantFlag}
-use Rattle.laws.specs.declared.Terms.{Terms}
 use Rattle.laws.specs.declared.Position.{Position}
+use Rattle.laws.specs.declared.Board.{Board}
 use Rattle.laws.specs.declared.ChessRetraction.{ChessRetraction}
 use Rattle.laws.specs.Men.{Man, empty, man, Men, colorPlace, kindPlace, isOf, isKind}
 use Rattle.laws.specs.Attacks.{unionOf, checkersOf, pinsOf}
@@ -88,19 +86,7 @@ menIn p = menAt (p .pieces) (p .colors)
 abbrev pub posAt : Position → Pos
 posAt p = record { men = menIn p; turn = p .turn; rights = rightsOf (p .white) (p .black); state = p .passant; terms = p .terms }
 
-pub record Board : Type 0 where
-  pub pieces : List ℕ
-  pub colors : List ℕ
-  pub combined : ℕ
-  pub turn : Color
-  pub white : CastleRights
-  pub black : CastleRights
-  pub pinned : ℕ
-  pub checkers : ℕ
-  pub passant : EnPassantFlag
-  pub terms : Terms
-
--- its fields without the worked-out ones, and the position that they show
+-- a board's fields without the worked-out ones, and the position that they show
 abbrev pub fieldsOf : Board → Position
 fieldsOf b = record { pieces = b .pieces; colors = b .colors; turn = b .turn; white = b .white; black = b .black; passant = b .passant; terms = b .terms }
 

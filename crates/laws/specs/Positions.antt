@@ -9,6 +9,7 @@ use Rattle.laws.specs.declared.Side.the-variants.{Short as short, Long a
 use Rattle.laws.specs.declared.CastleRights.{CastleRights}
 use Rattle.laws.specs.declared.CastleRights.the-variants.{NoRights, KingSide, QueenSide, Both}
 use Rattle.laws.specs.declared.EnPassantFlag.{EnPassantFlag}
+use Rattle.laws.specs.declared.EnPassantFlag.the-variants.{Any, Some, None}
 use Rattle.laws.specs.declared.Edition.{Edition}
 use Rattle.laws.specs.declared.Terms.{Terms}
 use Rattle.laws.specs.Men.{Men}
@@ -40,6 +41,12 @@ rightsFor false false = NoRights
 -- the terms of an edition
 abbrev pub termsOf : Edition → Terms
 termsOf v = record { edition = v }
+
+-- `set_uncertain_ep`: none becomes unknown, all else stays
+abbrev pub uncertain : EnPassantFlag → EnPassantFlag
+uncertain Any = Any
+uncertain (Some q) = Some q
+uncertain None = Any
 
 pub record Pos : Type 0 where
   pub men : Men

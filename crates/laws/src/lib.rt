@@ -4,7 +4,7 @@ ghost use mathlib.Core.Path.{_≡_};
 ghost use Rattle.laws.specs.Positions.{termsOf};
 ghost use Rattle.laws.specs.Retractions.{unpacked};
 
-pub mod inner; // inner.rt: packing into 16 bits; inner/castling.rt: rights and homes
+pub mod inner; // inner.rt: packing into 16 bits, and none made unknown; inner/castling.rt: rights and homes
 
 pub enum Piece {
     Pawn,
@@ -70,6 +70,20 @@ pub struct Position {
     pub turn: Color,
     pub white: CastleRights,
     pub black: CastleRights,
+    pub passant: EnPassantFlag,
+    pub terms: Terms,
+}
+
+// All fields of a board: those of its position, and the union, pins and checkers worked out of them.
+pub struct Board {
+    pub pieces: [u64; 6],
+    pub colors: [u64; 2],
+    pub combined: u64,
+    pub turn: Color,
+    pub white: CastleRights,
+    pub black: CastleRights,
+    pub pinned: u64,
+    pub checkers: u64,
     pub passant: EnPassantFlag,
     pub terms: Terms,
 }

@@ -5,8 +5,9 @@ use lib.Bits.{or-zero-l}
 use Rattle.geometry.specs.declared.Color.{Color}
 use Rattle.geometry.specs.Colors.{opp}
 use Rattle.laws.specs.declared.Piece.the-variants.{Pawn, Knight, Bishop, Rook, Queen, King}
+use Rattle.laws.specs.declared.Board.{Board}
 use Rattle.laws.specs.Attacks.{attacked, unionOf}
-use Rattle.laws.specs.Boards.{menAt, Clean, Board, fieldsOf}
+use Rattle.laws.specs.Boards.{menAt, Clean, fieldsOf}
 use Rattle.geometry.specs.Chess.{knightMoves, kingMoves, bishopMoves, rookMoves}
 use Rattle.view.specs.Views.{within, viewOf}
 use Rattle.kings.specs.Kings.{farOf, nearOf, attackedOf}

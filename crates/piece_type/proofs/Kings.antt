@@ -16,7 +16,8 @@ use Rattle.laws.specs.declared.CastleRights.{CastleRights}
 use Rattle.laws.specs.declared.CastleRights.the-variants.{NoRights, KingSide, QueenSide, Both}
 use Rattle.laws.specs.Positions.{holds}
 use Rattle.laws.specs.declared.Side.the-variants.{Short as short, Long as long}
-use Rattle.laws.specs.Boards.{Board, kindSet}
+use Rattle.laws.specs.declared.Board.{Board}
+use Rattle.laws.specs.Boards.{kindSet}
 use Rattle.retraction_list.specs.declared.SourceAndTargets.{SourceAndTargets}
 use Rattle.retraction_list.specs.declared.UnCaptureKind.the-variants.{Optional, Necessary, Forbidden}
 use Rattle.retraction_list.specs.Entries.{entryOf}

@@ -7,8 +7,8 @@ use Rattle.squares.specs.Squares.{has}
 use Rattle.squares.specs.Members.{firstOf}
 use Rattle.geometry.specs.Lines.{betweenOf}
 use Rattle.laws.specs.declared.Piece.the-variants.{Knight}
+use Rattle.laws.specs.declared.Board.{Board}
 use Rattle.laws.specs.Men.{kindPlace}
-use Rattle.laws.specs.Boards.{Board}
 use Rattle.retraction_list.specs.declared.UnCaptureKind.the-variants.{Optional}
 use Rattle.retraction_list.specs.Entries.{captureKind}
 use Rattle.view.specs.declared.View.{View}

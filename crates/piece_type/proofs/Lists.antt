@@ -12,9 +12,10 @@ use Rattle.geometry.specs.Colors.{opp}
 use Rattle.laws.specs.declared.Piece.the-variants.{Queen}
 use Rattle.laws.specs.declared.EnPassantFlag.{EnPassantFlag}
 use Rattle.laws.specs.declared.EnPassantFlag.the-variants.{Any, Some, None}
+use Rattle.laws.specs.declared.Board.{Board}
 use Rattle.laws.specs.Men.{kindPlace}
 use Rattle.laws.specs.Acceptance.{stateOk}
-use Rattle.laws.specs.Boards.{Board, posOf, acceptedBoard}
+use Rattle.laws.specs.Boards.{posOf, acceptedBoard}
 use Rattle.retraction_list.specs.declared.SourceAndTargets.{SourceAndTargets}
 use Rattle.retraction_list.specs.declared.UnCaptureKind.the-variants.{Forbidden}
 use Rattle.retraction_list.specs.Entries.{entryOf}

@@ -5,7 +5,7 @@ use Prim.Native.Nat.{ℕ, _<_, _^_}
 use lib.Dec.{eqb}
 use lib.Bits.{bitXor, xor-lt}
 use Rattle.squares.specs.Members.{members, concat}
-use Rattle.laws.specs.Boards.{Board}
+use Rattle.laws.specs.declared.Board.{Board}
 use Rattle.geometry.specs.Chess.{knightMoves, bishopMoves, rookMoves}
 use Rattle.view.specs.Views.{viewOf}
 use Rattle.officers.specs.Officers.{movesOf, stepsOf, quietOf, fromOf, eachOf}

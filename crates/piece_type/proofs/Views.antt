@@ -8,8 +8,9 @@ use Rattle.geometry.specs.declared.Color.{Color}
 use Rattle.geometry.specs.declared.Color.the-variants.{White, Black}
 use Rattle.geometry.specs.Colors.{opp}
 use Rattle.laws.specs.declared.Side.{Side}
+use Rattle.laws.specs.declared.Board.{Board}
 use Rattle.laws.specs.Positions.{holds, rightsOf}
-use Rattle.laws.specs.Boards.{Board, fieldsOf}
+use Rattle.laws.specs.Boards.{fieldsOf}
 use Rattle.retraction_list.specs.declared.UnCaptureKind.{UnCaptureKind}
 use Rattle.retraction_list.specs.declared.UnCaptureKind.the-variants.{Optional, Necessary}
 use Rattle.retraction_list.specs.Entries.{captureKind}

@@ -8,7 +8,8 @@ use Rattle.laws.specs.declared.Piece.{Piece}
 use Rattle.laws.specs.declared.Piece.the-variants.{Pawn, Knight, Bishop, Rook, Queen, King}
 use Rattle.laws.specs.declared.CastleRights.{CastleRights}
 use Rattle.laws.specs.declared.CastleRights.the-variants.{NoRights, KingSide, QueenSide, Both}
-use Rattle.laws.specs.Boards.{Board, kindSet, colorSet}
+use Rattle.laws.specs.declared.Board.{Board}
+use Rattle.laws.specs.Boards.{kindSet, colorSet}
 use Rattle.geometry.specs.Chess.{knightMoves, kingMoves, bishopMoves, rookMoves}
 use Rattle.piece_type.specs.Bitboards.{_&_, _¦_, _!=_, EMPTY, toSquare}
 use Rattle.piece_type.specs.Squares.{getPawnAttacks}

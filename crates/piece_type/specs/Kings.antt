@@ -6,7 +6,7 @@ use Rattle.squares.specs.Squares.{file, rank}
 use Rattle.geometry.specs.Colors.{opp}
 use Rattle.geometry.specs.Lines.{betweenOf}
 use Rattle.laws.specs.declared.Piece.the-variants.{Rook}
-use Rattle.laws.specs.Boards.{Board}
+use Rattle.laws.specs.declared.Board.{Board}
 use Rattle.retraction_list.specs.declared.UnCaptureKind.the-variants.{Optional, Necessary, Forbidden}
 use Rattle.retraction_list.specs.Entries.{entryOf}
 use Rattle.geometry.specs.Chess.{rookMoves}

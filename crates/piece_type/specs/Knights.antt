@@ -4,7 +4,7 @@ use Prim.Native.Nat.{ℕ}
 use Rattle.squares.specs.Tests.{_and_}
 use Rattle.geometry.specs.Colors.{opp}
 use Rattle.geometry.specs.Lines.{betweenOf}
-use Rattle.laws.specs.Boards.{Board}
+use Rattle.laws.specs.declared.Board.{Board}
 use Rattle.retraction_list.specs.declared.UnCaptureKind.{UnCaptureKind}
 use Rattle.retraction_list.specs.declared.UnCaptureKind.the-variants.{Optional, Necessary}
 use Rattle.retraction_list.specs.Entries.{entryOf}

@@ -7,7 +7,7 @@ use Rattle.squares.specs.Squares.{file, size}
 use Rattle.geometry.specs.Colors.{opp}
 use Rattle.laws.specs.declared.EnPassantFlag.{EnPassantFlag}
 use Rattle.laws.specs.declared.EnPassantFlag.the-variants.{Any, Some, None}
-use Rattle.laws.specs.Boards.{Board}
+use Rattle.laws.specs.declared.Board.{Board}
 use Rattle.retraction_list.specs.declared.SourceAndTargets.{SourceAndTargets}
 use Rattle.retraction_list.specs.declared.UnCaptureKind.the-variants.{Forbidden}
 use Rattle.retraction_list.specs.Entries.{entryOf}

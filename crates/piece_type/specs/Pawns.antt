@@ -14,7 +14,7 @@ use Rattle.laws.specs.declared.EnPassantFlag.{EnPassantFlag}
 use Rattle.laws.specs.declared.EnPassantFlag.the-variants.{Any, Some, None}
 use Rattle.laws.specs.declared.Edition.{Edition}
 use Rattle.laws.specs.declared.Edition.the-variants.{A, B}
-use Rattle.laws.specs.Boards.{Board}
+use Rattle.laws.specs.declared.Board.{Board}
 use Rattle.retraction_list.specs.declared.UnCaptureKind.the-variants.{Necessary, Forbidden, UnEnPassant}
 use Rattle.retraction_list.specs.Entries.{entryOf}
 use Rattle.geometry.specs.Chess.{rankSet, adjacentFiles, lineOf}

@@ -9,13 +9,14 @@ use native.Mathlib.Omega.{arith}
 use borrow.Author.Tests.{eq-eqb}
 use lib.ListN.{length}
 use Rattle.laws.specs.declared.ChessRetraction.{ChessRetraction}
+use Rattle.laws.specs.declared.Board.{Board}
 use Rattle.laws.specs.Retractions.{packed}
 use Rattle.laws.specs.Acceptance.{accepted}
 use Rattle.laws.specs.Strictness.{strict}
 use Rattle.squares.specs.Squares.{flag}
 use Rattle.squares.specs.Members.{numbersFrom}
 use Rattle.laws.specs.StrictLists.{place, retractionAt, strictPlaces, Ascending, In, here}
-use Rattle.laws.specs.Boards.{Board, acceptedBoard, BoardPast}
+use Rattle.laws.specs.Boards.{acceptedBoard, BoardPast}
 use Rattle.refusal.specs.declared.Refusal.{Refusal}
 use Rattle.refusal.specs.declared.Verdict.the-variants.{Accepted, Refused}
 use Rattle.refusal.specs.Refusals.{numberOf}

@@ -1,4 +1,4 @@
-// What un-make refuses, and replay of a board, over a lent table of squares between.
+// Un-make and replay of a board, over a lent table of squares between.
 use super::super::Boarded;
 use super::super::RetractableBoard;
 use laws::ChessRetraction;
@@ -6,6 +6,8 @@ use position::Positioned;
 use refusal::Verdict;
 ghost use mathlib.Core.Path.{_≡_};
 ghost use Rattle.geometry.specs.Lines.{IsBetween};
+ghost use Rattle.refusal.specs.declared.Verdict.the-variants.{Accepted};
+ghost use Rattle.board.specs.Moving.{unmadeOn};
 ghost use Rattle.board.specs.inner.Gates.{Kept, boardedOf, unmakeGate, replayGate, replayedBoard};
 
 // The board of an answer: union, checkers and pins are worked out afresh.
@@ -42,6 +44,17 @@ pub fn unmake_gate(t: &[u64; 4096], b: RetractableBoard, r: ChessRetraction) -> 
             u.verdict
         }
     }
+}
+
+// The board before a retraction that passes 1 to 7 and 9 to 12: its sets go back as the Laws' board's.
+pub fn unmade(t: &[u64; 4096], b: RetractableBoard, r: ChessRetraction) -> RetractableBoard
+    requires { ⌜ IsBetween (now t) × (unmakeGate b r ≡ Accepted) ⌝ }
+    ensures { λ z. ⌜ z ≡ unmadeOn b r ⌝ }
+{
+    let today = super::to_laws(b);
+    let earlier = back::inner::moved(today, r);
+    let z = back::inner::searched(t, earlier);
+    super::from_laws(z)
 }
 
 // Replay: refusals 1 to 5, 7 and 12, or the board after the move.

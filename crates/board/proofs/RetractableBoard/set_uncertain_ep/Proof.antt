@@ -1,7 +1,8 @@
 -- `board::RetractableBoard::set_uncertain_ep` meets its contract.
 use borrow.Author.Needs.{needs}
+use Rattle.laws.specs.Positions.{uncertain}
 use Rattle.board.specs.Gate.{gateOf, boardTests}
-use Rattle.board.specs.Answers.{withPassant, uncertain}
+use Rattle.board.specs.Answers.{withPassant}
 use Rattle.board.proofs.Saying.{boards-by}
 use Rattle.board.proofs.Passing.{gate-number}
 use Rattle.board.proofs.RetractableBoard.set_uncertain_ep.Statement.{statement}
