@@ -1,4 +1,4 @@
--- The squares that a way touches are squares of the board.
+-- The squares that a way touches are squares of the board, and so is the home square of a double step.
 use mathlib.Core.Path.{_≡_}
 use Prim.Native.Nat.{ℕ, _<_}
 use native.Mathlib.Omega.{arith}
@@ -13,6 +13,10 @@ use Rattle.laws.specs.Positions.{corner, rookTo}
 pub behind-in : (c : Color) (s : ℕ) → s < 64 → rankFor c s ≡ 5 → behind c s < 64
 behind-in White s h e = omega arith
 behind-in Black s h e = omega arith
+
+pub twice-behind-in : (c : Color) (q : ℕ) → q < 64 → rankFor c q ≡ 3 → behind c (behind c q) < 64
+twice-behind-in White q h e = omega arith
+twice-behind-in Black q h e = omega arith
 
 pub corner-in : (c : Color) (d : Side) → corner c d < 64
 corner-in White short = lit< tt

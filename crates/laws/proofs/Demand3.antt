@@ -17,6 +17,7 @@ use Rattle.laws.specs.declared.EnPassantFlag.the-variants.{Some}
 use Rattle.laws.specs.declared.Edition.{Edition}
 use Rattle.laws.specs.declared.ChessRetraction.{ChessRetraction}
 use Rattle.laws.specs.Men.{Man, empty, man, Men, numbered, isEmpty, isOf, isPawn, bare, put}
+use Rattle.laws.specs.Souls.{soulsOk}
 use Rattle.laws.specs.declared.Side.{Side}
 use Rattle.laws.specs.declared.Side.the-variants.{Short as short, Long as long}
 use Rattle.laws.specs.Positions.{Rights, Pos, retractor, kingHome, corner, kingTo, rookTo}
@@ -25,7 +26,7 @@ use Rattle.laws.specs.declared.Way.{Way}
 use Rattle.laws.specs.declared.Way.the-variants.{Plain as plain, Passant as passant, Castle as castling}
 use Rattle.laws.specs.Moves.{way, cleared, filled, after, goes, markOk, possible, arriving, kept, replayed, safe, legal}
 use Rattle.laws.specs.Unmaking.{before, leaving, regained, stateBefore, unmadeBy, wayBack, unmade, undoable, promotedTo, retractable}
-use Rattle.laws.specs.Strictness.{counts, agrees, Gives, Past, strictBy, strict}
+use Rattle.laws.specs.Strictness.{agrees, stepOk, counts, Gives, Past, strictBy, strict}
 use Rattle.squares.proofs.Testing.{both, left, right, or-right}
 use Rattle.squares.proofs.Every.{all-at}
 use Rattle.laws.proofs.Mans.{opp-opp, is-empty, numbered-not-of, leaves, kind-back, arriving-of, passant-is, castling-is, state-named}
@@ -40,7 +41,8 @@ use Rattle.laws.proofs.Rights.{home, fewer, same-right-self, regained-i
 pub sound : (p : Pos) (r : ChessRetraction) → accepted p ≡ true → strict p r ≡ true → Gives (unmade p r) p r (kindToday p r)
 sound p r ok h = record {
   isAccepted = right _ _ (left _ _ (left _ _ (left _ _ h)));
-  isCounted = right _ _ (left _ _ (left _ _ h));
+  fewSouls = left _ _ (right _ _ (left _ _ (left _ _ h)));
+  couldStep = right _ _ (right _ _ (left _ _ (left _ _ h)));
   isLegal = both (both (again .possible-again) safe-way) calm;
   sameMen = again .men-back;
   sameTurn = again .turn-back;
@@ -108,6 +110,14 @@ state-on plain p t s u ok g = refl
 state-on passant p t s u ok g = passing p t s u ok g
 state-on (castling d) p t s u ok g = refl
 
+-- only a capture en passant asks for the double step
+step-on : (w : Way) (p : Pos) (t s u : ℕ) → goes p w t s u ≡ true → (w ≡ passant → stepOk (p .men) (p .turn) (p .state) ≡ true)
+    → stepOk (p .men) (p .turn) (stateBefore w (p .turn) s) ≡ true
+step-on plain p t s u g h = refl
+step-on passant p t s u g h =
+    subst (λ (st : EnPassantFlag). stepOk (p .men) (p .turn) st ≡ true) (state-named (p .state) (behind (p .turn) s) (right _ _ g)) (h refl)
+step-on (castling d) p t s u g h = refl
+
 castle-done : (c : Color) (d : Side) (a : Man) (m : Men) → undoable (castling d) c (kingTo c d) (after (castling d) c (kingHome c) (kingTo c d) a m) ≡ true
 unfolding _and_
 castle-done White short a m = refl
@@ -167,14 +177,15 @@ left-bare (castling d) c t s a m ne f =
     off s a t ne (off (rookTo c d) (man c Rook) t (λ q. home≢rook c d (sym (f d refl) ∙ q)) (put-at t empty (cleared (castling d) c s m)))
 
 -- the board after the move, with any state, as a strict test sees it
-complete-at : (b : Pos) (r : ChessRetraction) (k : ℕ) (st : EnPassantFlag) → accepted b ≡ true → counts b ≡ true → legal b r k ≡ true
+complete-at : (b : Pos) (r : ChessRetraction) (k : ℕ) (st : EnPassantFlag) → accepted b ≡ true → soulsOk (b .men) ≡ true
+    → (way (b .men (r .target)) (r .target) (r .source) (r .uncaptured) ≡ passant → stepOk (b .men) (b .turn) (b .state) ≡ true) → legal b r k ≡ true
     → agrees st (replayed b r k .state) ≡ true
     → strict (record { men = replayed b r k .men; turn = opp (b .turn); rights = replayed b r k .rights; state = st; terms = b .terms }) r ≡ true
-complete-at b r k st ok few leg agr =
+complete-at b r k st ok few stepped leg agr =
     ap (λ (z : Color). strictBy (wayBack z p r) z (unmadeBy (wayBack z p r) z p r) p r) (opp-opp c)
     ∙ ap (λ (z : Way). strictBy z c (unmadeBy z c p r) p r) same-way
     ∙ ap (λ (z : Men). strictBy w c (earlier z) p r) same-men
-    ∙ both (both (both (both can accepts-it) few) (right _ _ (left _ _ leg))) agr
+    ∙ both (both (both (both can accepts-it) counted) (right _ _ (left _ _ leg))) agr
   where
     a-b : Accepts b
     a-b = accepts b ok
@@ -259,6 +270,9 @@ complete-at b r k st ok few leg agr =
     has-right : (d : Side) → w ≡ castling d → b .rights c d ≡ true
     has-right d e = right _ _ (left _ _ (subst (λ (z : Way). goes b z t s u ≡ true) e (move .going)))
 
+    counted : counts (earlier (b .men)) ≡ true
+    counted = both few (step-on w b t s u (move .going) stepped)
+
     accepts-it : accepted (earlier (b .men)) ≡ true
     accepts-it = accepted-by (earlier (b .men)) (record {
       kings = a-b .kings;
@@ -268,12 +282,27 @@ complete-at b r k st ok few leg agr =
       calm = a-b .calm;
     })
 
+-- from an earlier board to strict; a board whose move is no capture en passant is asked for no double step
+pub complete-by : (e p : Pos) (r : ChessRetraction) (k : ℕ) → accepted e ≡ true → soulsOk (e .men) ≡ true
+    → (way (e .men (r .target)) (r .target) (r .source) (r .uncaptured) ≡ passant → stepOk (e .men) (e .turn) (e .state) ≡ true) → legal e r k ≡ true
+    → replayed e r k .men ≡ p .men → replayed e r k .turn ≡ p .turn → replayed e r k .rights ≡ p .rights → e .terms ≡ p .terms
+    → agrees (p .state) (replayed e r k .state) ≡ true → strict p r ≡ true
+complete-by e p r k ok few stepped leg men turn rights terms agr =
+    subst (λ (b : Bool). b ≡ true)
+    (λ i. strict (record { men = men i; turn = turn i; rights = rights i; state = p .state; terms = terms i }) r)
+    (complete-at e r k (p .state) ok few stepped leg agr)
+
 pub complete : (e p : Pos) (r : ChessRetraction) (k : ℕ) → Gives e p r k → strict p r ≡ true
 complete e p r k h =
-    subst (λ (b : Bool). b ≡ true)
-    (λ i. strict (record { men = h .sameMen i; turn = h .sameTurn i; rights = h .sameRights i; state = p .state; terms = h .sameTerms i }) r)
-    (complete-at e r k (p .state) (h .isAccepted) (h .isCounted) (h .isLegal) (h .sameState))
+    complete-by e p r k (h .isAccepted) (h .fewSouls) (λ _. h .couldStep) (h .isLegal) (h .sameMen) (h .sameTurn) (h .sameRights) (h .sameTerms) (h .sameState)
 
 -- demand 3, of positions
 pub demand3 : (p : Pos) (r : ChessRetraction) → accepted p ≡ true → (strict p r ≡ true) ↔ Past p r
 demand3 p r ok = (λ h. (unmade p r, kindToday p r, sound p r ok h), λ q. complete (q .0) p r (q .1) (q .2))
+
+-- whatever square an earlier board names, and whether or not that double step was possible: a move from it that is no capture en passant has a past
+pub past-but-passant : (e p : Pos) (r : ChessRetraction) (k : ℕ) → accepted p ≡ true → way (e .men (r .target)) (r .target) (r .source) (r .uncaptured) ≢ passant
+    → accepted e ≡ true → soulsOk (e .men) ≡ true → legal e r k ≡ true → replayed e r k .men ≡ p .men → replayed e r k .turn ≡ p .turn
+    → replayed e r k .rights ≡ p .rights → e .terms ≡ p .terms → agrees (p .state) (replayed e r k .state) ≡ true → Past p r
+past-but-passant e p r k today other ok few leg men turn rights terms agr =
+    demand3 p r today .0 (complete-by e p r k ok few (λ w. absurd (other w)) leg men turn rights terms agr)

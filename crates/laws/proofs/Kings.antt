@@ -29,14 +29,14 @@ use Rattle.laws.proofs.Retracting.{done-of}
 use Rattle.laws.proofs.Boundaries.{behind-in, corner-in, rookTo-in}
 
 -- an edit that changes nothing about kings
-calm-edit : (m : Men) (c : Color) (k : ℕ) (x : Man) → k < 64 → weigh (man c King) (m k) ≡ 0 → weigh (man c King) x ≡ 0 → number (put k x m) c King ≡ number m c King
+pub calm-edit : (m : Men) (c : Color) (k : ℕ) (x : Man) → k < 64 → weigh (man c King) (m k) ≡ 0 → weigh (man c King) x ≡ 0 → number (put k x m) c King ≡ number m c King
 calm-edit m c k x h a b = go (number-put m c King k x h) a b
   where
     go : {n₁ n₂ w₁ w₂ : ℕ} → n₁ + w₁ ≡ n₂ + w₂ → w₁ ≡ 0 → w₂ ≡ 0 → n₁ ≡ n₂
     go e a b = omega arith
 
 -- no man of another kind is a king
-no-king : (c c′ : Color) (d : Piece) → eqb (kindNumber d) 6 ≡ false → weigh (man c King) (man c′ d) ≡ 0
+pub no-king : (c c′ : Color) (d : Piece) → eqb (kindNumber d) 6 ≡ false → weigh (man c King) (man c′ d) ≡ 0
 unfolding _and_ _or_
 no-king c c′ d e = go (eqb (kindNumber d) 6) (eqb (weigh (man c King) (man c′ d)) 0) e all refl
   where
@@ -72,14 +72,14 @@ same-weight c c′ true (man d Queen) s h = no-king c′ c Pawn refl ∙ sym (no
 same-weight c c′ true (man d King) s h = absurd (false≢true (right _ _ h))
 
 -- a square with an edit over it holds no king if neither has
-no-king-put : (c : Color) (k : ℕ) (x : Man) (m : Men) (j : ℕ) → weigh (man c King) x ≡ 0 → weigh (man c King) (m j) ≡ 0 → weigh (man c King) (put k x m j) ≡ 0
+pub no-king-put : (c : Color) (k : ℕ) (x : Man) (m : Men) (j : ℕ) → weigh (man c King) x ≡ 0 → weigh (man c King) (m j) ≡ 0 → weigh (man c King) (put k x m j) ≡ 0
 no-king-put c k x m j a b = go (eqb j k)
   where
     go : (q : Bool) → weigh (man c King) (cond q x (m j)) ≡ 0
     go true = a
     go false = b
 
-empty-weight : (c : Color) {x : Man} → x ≡ empty → weigh (man c King) x ≡ 0
+pub empty-weight : (c : Color) {x : Man} → x ≡ empty → weigh (man c King) x ≡ 0
 empty-weight White e = ap (weigh (man White King)) e
 empty-weight Black e = ap (weigh (man Black King)) e
 

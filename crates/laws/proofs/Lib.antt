@@ -10,6 +10,7 @@ pub mod Retracting
 pub mod Replays
 pub mod Boundaries
 pub mod Kings
+pub mod DoubleSteps
 pub mod PawnRanks
 pub mod RightsBack
 pub mod StateBack

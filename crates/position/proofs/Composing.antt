@@ -31,15 +31,15 @@ module _ (p : Position) where
   with-own ok = λ i. record { pieces = ok .kinds i; colors = ok .colours i; turn = p .turn; white = p .white; black = p .black; passant = p .passant; terms = p .terms }
 
   module _ (q : Position) (m : Men) (e : q ≡ withMen p m) (on : OnBoard m) where
-    then-clean : Clean (q .pieces) (q .colors)
+    pub then-clean : Clean (q .pieces) (q .colors)
     unfolding withMen
     then-clean = subst (λ (z : Position). Clean (z .pieces) (z .colors)) (sym e) (sets-clean m on)
 
-    then-men : menIn q ≡ m
+    pub then-men : menIn q ≡ m
     unfolding withMen
     then-men = ap menIn e ∙ men-shown m on
 
-    then-do : (f : Men → Men) {r : Position} → r ≡ withMen q (f (menIn q)) → r ≡ withMen p (f m)
+    pub then-do : (f : Men → Men) {r : Position} → r ≡ withMen q (f (menIn q)) → r ≡ withMen p (f m)
     unfolding withMen
     then-do f h = h ∙ (λ i. withMen (e i) (f (then-men i)))
 

@@ -21,7 +21,8 @@ use Rattle.strict.specs.declared.LastMove.{LastMove}
 use Rattle.strict.specs.declared.LastMove.the-variants.{Exists, NoLastMove, Refused as notAnswered}
 
 -- "some accepted earlier board with souls at most 8 a side has that move as a legal one, and the move gives today's men, turn, castling
--- rights and, unless unknown, today's en passant state": e is a board that passes 1 to 7, k the kind promoted to
+-- rights and, unless unknown, today's en passant state", and the double step that it names was possible: e is a board that passes 1 to 7, k the kind
+-- promoted to
 abbrev pub Past : RetractableBoard → ChessRetraction → Type 0
 Past b r = (e : RetractableBoard) × (k : ℕ) × Shaped (toLaws e) × (gateOf e ≡ Accepted) × Gives (posOn e) (posOn b) r k
 

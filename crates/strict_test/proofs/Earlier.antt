@@ -14,7 +14,7 @@ use Rattle.geometry.specs.declared.Color.the-variants.{White, Black}
 use Rattle.geometry.specs.Colors.{opp}
 use lib.Dec.{leb}
 use Rattle.laws.specs.Positions.{Pos, retractor}
-use Rattle.laws.specs.Acceptance.{kingsOk, quiet, accepted}
+use Rattle.laws.specs.Acceptance.{kingsOk, stateOk, quiet, accepted}
 use Rattle.laws.specs.Moves.{way, safe, isNamed}
 use Rattle.laws.specs.Unmaking.{unmade}
 use Rattle.refusal.specs.declared.Refusal.{Refusal}
@@ -83,6 +83,7 @@ module _ (p : Position) (r : ChessRetraction) (today : Today p) (u : Positioned)
   earlier-ready k = record {
     sound = subst (λ (q : Position). Clean (q .pieces) (q .colors)) (sym (position-is k)) (unmade-clean p r (can k));
     kings = subst (λ (q : Pos). kingsOk (q .men) ≡ true) (sym (shown k)) (unmade-passes (posAt p) r (today .lawful) (can k) .kings);
+    state = subst (λ (q : Pos). stateOk (q .terms .edition) (q .men) (q .turn) (q .state) ≡ true) (sym (shown k)) (unmade-passes (posAt p) r (today .lawful) (can k) .state);
     source-in = back (posAt p) r (can k) .can .source-in;
     target-in = back (posAt p) r (can k) .can .target-in;
   }

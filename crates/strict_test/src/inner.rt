@@ -7,11 +7,12 @@ use laws::Side;
 use laws::Way;
 use refusal::Verdict;
 ghost use mathlib.Core.Path.{_≡_};
-ghost use mathlib.Core.Bool.{not};
+ghost use mathlib.Core.Bool.{true, not};
 ghost use Rattle.squares.specs.Tests.{_and_};
 ghost use Rattle.geometry.specs.Colors.{opp};
 ghost use Rattle.geometry.specs.Lines.{IsBetween};
 ghost use Rattle.laws.specs.Attacks.{attacked};
+ghost use Rattle.laws.specs.Acceptance.{kingsOk, stateOk};
 ghost use Rattle.laws.specs.Souls.{soulsOk};
 ghost use Rattle.laws.specs.Positions.{kingHome, rookTo};
 ghost use Rattle.laws.specs.Boards.{Clean, menIn, posAt};
@@ -33,12 +34,12 @@ fn few_souls(e: Position) -> bool
     (mine <= 8) & (theirs <= 8)
 }
 
-// What the men count to.
+// What an earlier position must have to count: few souls, and a double step that was possible where it names one.
 fn counts(e: Position) -> bool
-    requires { ⌜ Clean (e .pieces) (e .colors) ⌝ }
+    requires { ⌜ Clean (e .pieces) (e .colors) × (kingsOk (menIn e) ≡ true) × (stateOk (e .terms .edition) (menIn e) (e .turn) (e .passant) ≡ true) ⌝ }
     ensures { λ z. ⌜ z ≡ countsFor (posAt e) ⌝ }
 {
-    few_souls(e)
+    few_souls(e) & double_step::inner::could_step(e)
 }
 
 // Neither the king's home nor the square that it crosses, the rook's new one, is attacked.

@@ -9,7 +9,7 @@ use Rattle.laws.specs.declared.EnPassantFlag.the-variants.{Any, Some, None}
 use Rattle.laws.specs.declared.ChessRetraction.{ChessRetraction}
 use Rattle.laws.specs.Men.{Men}
 use Rattle.laws.specs.Positions.{Pos}
-use Rattle.laws.specs.Acceptance.{kingsOk, quiet, accepted}
+use Rattle.laws.specs.Acceptance.{kingsOk, stateOk, quiet, accepted}
 use Rattle.laws.specs.declared.Way.{Way}
 use Rattle.laws.specs.Moves.{safe}
 use Rattle.laws.specs.Strictness.{agrees, counts, strict}
@@ -18,7 +18,7 @@ use Rattle.laws.specs.declared.Position.{Position}
 use Rattle.moves.specs.inner.Parts.{wayFor}
 use Rattle.replay.specs.inner.Parts.{stateFor}
 
--- "souls at most 8 on each side"; "castling out of or through attack excluded"; "unless unknown, today's en passant state"
+-- souls and the double step; "castling out of or through attack excluded"; "unless unknown, today's en passant state"
 unfoldable pub countsFor : Pos → Bool
 countsFor e = counts e
 
@@ -51,5 +51,6 @@ pub record Today (p : Position) : Type 0 where
 pub record Earlier (e : Position) (r : ChessRetraction) : Type 0 where
   pub sound : Clean (e .pieces) (e .colors)
   pub kings : kingsOk (menIn e) ≡ true
+  pub state : stateOk (e .terms .edition) (menIn e) (e .turn) (e .passant) ≡ true
   pub source-in : r .source < 64
   pub target-in : r .target < 64
