@@ -4,6 +4,7 @@
 #   need_input          fails where standard input is closed
 #   ready               proves and builds the program where its sources are newer than it, and finds the kit that it is run with
 #   answer [WORDS]      runs it
+#   feed SED-SCRIPT     gives standard input, changed, to the script's own `answers`
 
 # What a build from nothing takes. It is said here, and in README.md.
 minutes="about 5 to 7 minutes on two cores"
@@ -110,4 +111,15 @@ answer() {
     [ -z "$said" ] || printf '%s\n' "$said" >&2
     [ "$status" -gt 128 ] || status=1
     exit "$status"
+}
+
+# The lines of standard input, changed by sed, to `answers` of the script that calls this. sed says nothing itself: where the program has ended before it,
+# that is told.
+feed() { # SED-SCRIPT
+    at_once=
+    [ ! -t 0 ] || at_once=-u
+    { cut=$({ { LC_ALL=C sed $at_once "$1" 2>/dev/null || echo cut >&4; } | answers >&5; } 4>&1); } 5>&1
+    status=$?
+    [ "$status" -eq 0 ] || exit "$status"
+    [ -z "$cut" ] || fail 1 "the input cannot be read"
 }

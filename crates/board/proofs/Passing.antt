@@ -4,7 +4,7 @@ use mathlib.Core.Bool.{true, not}
 use Prim.Native.Nat.{ℕ, _<_}
 use lib.Dec.{eqb, ltb}
 use lib.ListN.{length}
-use borrow.Author.Tests.{eqb-true}
+use borrow.Author.Tests.{eqb-true, eq-eqb}
 use Rattle.squares.specs.Tests.{_and_}
 use Rattle.squares.specs.Squares.{has}
 use Rattle.laws.specs.declared.Position.{Position}
@@ -12,7 +12,7 @@ use Rattle.laws.specs.declared.EnPassantFlag.{EnPassantFlag}
 use Rattle.laws.specs.Men.{Man, empty, man, isEmpty}
 use Rattle.laws.specs.Attacks.{unionOf, checkersOf, pinsOf}
 use Rattle.laws.specs.Acceptance.{kingsOk, pawnsOk, rightsOk, stateOk, quiet, accepted}
-use Rattle.laws.specs.Boards.{menOk, Clean}
+use Rattle.laws.specs.Boards.{menOk, Clean, acceptedBoard}
 use Rattle.refusal.specs.declared.Refusal.the-variants.{Men as men, Kings as kings, Check as check, Stale, Source, Passant}
 use Rattle.refusal.specs.declared.Verdict.the-variants.{Accepted}
 use Rattle.refusal.specs.Refusals.{verdictNumber, unless, andThen}
@@ -28,6 +28,7 @@ use Rattle.squares.proofs.Comprehension.{has-setOf}
 use Rattle.squares.proofs.Testing.{both, left, right, agree, agree-eq}
 use Rattle.laws.proofs.Cases.{by-cases}
 use Rattle.laws.proofs.Cleaning.{Bounded, clean}
+use Rattle.laws.proofs.Facts.{accepts}
 use Rattle.laws.proofs.Passes.{Passes}
 use Rattle.incremental.proofs.Ways.{piece-read}
 use Rattle.refusal.proofs.Saying.{then-number, both-accept, test-passes}
@@ -85,6 +86,16 @@ gate-passed b h = record {
 
     fresh : freshOn b ≡ true
     fresh = test-passes (freshOn b) Stale Accepted (both-accept (judgedOf (positionOn b)) (unless (freshOn b) Stale Accepted) h .1) .0
+
+-- the Laws' record of a board is accepted exactly when the gate lets the board pass
+pub gate-by : (b : RetractableBoard) → acceptedBoard (toLaws b) ≡ true → gateOf b ≡ Accepted
+unfolding gateOf judgedOf fiveOf thirdOf freshOn
+gate-by b h =
+    let a = accepts (posOn b) (right _ _ (left _ _ h)) in rw (left _ _ (left _ _ h), a .kings, a .pawns, a .rights, a .state, a .calm, right _ _ h)
+
+pub accepted-by-gate : (b : RetractableBoard) → gateOf b ≡ Accepted → acceptedBoard (toLaws b) ≡ true
+accepted-by-gate b h =
+    let p : Passed b = gate-passed b h in both (both (p .men-agree) (p .lawful)) (both (both (eq-eqb _ _ (p .union-is)) (eq-eqb _ _ (p .checkers-are))) (eq-eqb _ _ (p .pins-are)))
 
 -- it is worked out from its own fields
 pub worked-whole : (b : RetractableBoard) → gateOf b ≡ Accepted → workedOf (positionOn b) ≡ b

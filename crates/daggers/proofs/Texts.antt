@@ -29,10 +29,10 @@ use Rattle.squares.proofs.Testing.{both, failed}
 use Rattle.squares.proofs.Every.{all-at}
 use Rattle.squares.proofs.Comprehension.{flag-lt}
 use Rattle.laws.proofs.StrictMembers.{placed-place, strict-in}
-use Rattle.board.proofs.Passing.{gate-judged}
+use Rattle.board.proofs.Passing.{gate-judged, gate-by}
 use Rattle.position_text.proofs.Inverse.{in-form, says-men-ok}
 use Rattle.text.proofs.RoundTrip.{read-said}
-use Rattle.strict.proofs.Told.{gate-by, strict-past}
+use Rattle.strict.proofs.Told.{strict-past}
 
 -- what the reader's walk reads, and the board of it
 abbrev pub fieldsIn : String → Position

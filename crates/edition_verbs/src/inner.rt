@@ -7,6 +7,7 @@ use refusal::Verdict;
 ghost use Rattle.puts.specs.inner.Growing.{Grows};
 
 mod attacked; // attacked.rt: who attacks a square, checks, or forbids a castling
+mod histories; // histories.rt: the plies of a history
 mod lists; // lists.rt: the ported list and the strict one, put whole
 mod written; // written.rt: records read and written
 
@@ -24,6 +25,7 @@ enum Question {
     Attackers(u8, Color),
     Checkers,
     Castling(Side),
+    History(u8),
     Nothing,
 }
 
@@ -66,7 +68,7 @@ fn in_edition(line: &[u8], at: usize, edition: Edition, out: &mut [u8; 65536]) -
     }
 }
 
-// Behind the text stand two counters, a square and a colour, a side, or nothing.
+// Behind the text stand two counters, a square and a colour, a side, a depth, or nothing.
 fn asked(line: &[u8], at: usize) -> Question {
     if fields::inner::starts(line, b"list\t") {
         return Question::List;
@@ -87,6 +89,12 @@ fn asked(line: &[u8], at: usize) -> Question {
             fields::inner::counter(line, half),
             fields::inner::counter(line, full),
         );
+    }
+    if fields::inner::starts(line, b"history\t") {
+        return Question::History(fields::inner::decimal(
+            line,
+            fields::inner::after(line, at, b'\t'),
+        ));
     }
     attacked::asked(line, at)
 }
@@ -116,6 +124,7 @@ fn of_board(what: Question, b: RetractableBoard, out: &mut [u8; 65536]) -> usize
         Question::Attackers(sq, color) => attacked::put_attackers(b.attackers(sq, color), out),
         Question::Checkers => attacked::put_squares(out, 0, b.checkers),
         Question::Castling(side) => attacked::put_castling(castling::attackers(b, side), out),
+        Question::History(depth) => histories::put(history::history_of(b, depth), depth, out),
         Question::Read => 0,
         Question::Nothing => 0,
     }

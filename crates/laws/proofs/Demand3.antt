@@ -176,111 +176,120 @@ left-bare passant c t s a m ne f = off s a t ne (put-at t empty (cleared passant
 left-bare (castling d) c t s a m ne f =
     off s a t ne (off (rookTo c d) (man c Rook) t (λ q. home≢rook c d (sym (f d refl) ∙ q)) (put-at t empty (cleared (castling d) c s m)))
 
--- the board after the move, with any state, as a strict test sees it
-complete-at : (b : Pos) (r : ChessRetraction) (k : ℕ) (st : EnPassantFlag) → accepted b ≡ true → soulsOk (b .men) ≡ true
-    → (way (b .men (r .target)) (r .target) (r .source) (r .uncaptured) ≡ passant → stepOk (b .men) (b .turn) (b .state) ≡ true) → legal b r k ≡ true
-    → agrees st (replayed b r k .state) ≡ true
-    → strict (record { men = replayed b r k .men; turn = opp (b .turn); rights = replayed b r k .rights; state = st; terms = b .terms }) r ≡ true
-complete-at b r k st ok few stepped leg agr =
-    ap (λ (z : Color). strictBy (wayBack z p r) z (unmadeBy (wayBack z p r) z p r) p r) (opp-opp c)
-    ∙ ap (λ (z : Way). strictBy z c (unmadeBy z c p r) p r) same-way
-    ∙ ap (λ (z : Men). strictBy w c (earlier z) p r) same-men
-    ∙ both (both (both (both can accepts-it) counted) (right _ _ (left _ _ leg))) agr
-  where
-    a-b : Accepts b
-    a-b = accepts b ok
+-- a legal move from an accepted b: p is the position after it, with any state
+module _ (b : Pos) (r : ChessRetraction) (k : ℕ) (st : EnPassantFlag) (ok : accepted b ≡ true) (leg : legal b r k ≡ true) where
+  a-b : Accepts b
+  a-b = accepts b ok
 
-    pass : Passes b
-    pass = passes-of b a-b
+  pass : Passes b
+  pass = passes-of b a-b
 
-    c : Color
-    c = b .turn
+  abbrev c : Color
+  c = b .turn
 
-    t : ℕ
-    t = r .target
+  abbrev t : ℕ
+  t = r .target
 
-    s : ℕ
-    s = r .source
+  abbrev s : ℕ
+  s = r .source
 
-    u : ℕ
-    u = r .uncaptured
+  abbrev u : ℕ
+  u = r .uncaptured
 
-    x : Man
-    x = b .men t
+  abbrev x : Man
+  x = b .men t
 
-    w : Way
-    w = way x t s u
+  abbrev w : Way
+  w = way x t s u
 
-    a : Man
-    a = arriving (r .unpromotion) x c k
+  abbrev a : Man
+  a = arriving (r .unpromotion) x c k
 
-    p : Pos
-    p = record { men = after w c t s a (b .men); turn = opp c; rights = kept t s (b .rights); state = st; terms = b .terms }
+  abbrev p : Pos
+  p = record { men = after w c t s a (b .men); turn = opp c; rights = kept t s (b .rights); state = st; terms = b .terms }
 
-    earlier : Men → Pos
-    earlier z = record { men = z; turn = c; rights = regained w c (p .rights); state = stateBefore w c s; terms = b .terms }
+  abbrev earlier : Men → Pos
+  earlier z = record { men = z; turn = c; rights = regained w c (p .rights); state = stateBefore w c s; terms = b .terms }
 
-    move : Possible b r k
-    move = possibly b r k (left _ _ (left _ _ leg))
+  move : Possible b r k
+  move = possibly b r k (left _ _ (left _ _ leg))
 
-    now-s : p .men s ≡ a
-    now-s = put-at s a (filled w c (put t empty (cleared w c s (b .men))))
+  now-s : p .men s ≡ a
+  now-s = put-at s a (filled w c (put t empty (cleared w c s (b .men))))
 
-    left-man : leaving (r .unpromotion) c (p .men s) ≡ x
-    left-man = ap (leaving (r .unpromotion) c) now-s ∙ leaves x c s (r .unpromotion) k (move .mine) (move .marked)
+  left-man : leaving (r .unpromotion) c (p .men s) ≡ x
+  left-man = ap (leaving (r .unpromotion) c) now-s ∙ leaves x c s (r .unpromotion) k (move .mine) (move .marked)
 
-    same-way : wayBack c p r ≡ w
-    same-way = ap (λ (z : Man). way z t s u) left-man
+  same-way : wayBack c p r ≡ w
+  same-way = ap (λ (z : Man). way z t s u) left-man
 
-    same-men : unmadeBy w c p r .men ≡ b .men
-    same-men =
-        ap (λ (z : Man). before w c t s z (numbered (opp c) u) (p .men)) left-man
-        ∙ before-after w c t s x (numbered (opp c) u) a (b .men) refl (move .taken) (ready w b t s u pass (move .going))
+  same-men : unmadeBy w c p r .men ≡ b .men
+  same-men =
+      ap (λ (z : Man). before w c t s z (numbered (opp c) u) (p .men)) left-man
+      ∙ before-after w c t s x (numbered (opp c) u) a (b .men) refl (move .taken) (ready w b t s u pass (move .going))
 
-    same-kind : promotedTo (r .unpromotion) (p .men s) ≡ k
-    same-kind = ap (promotedTo (r .unpromotion)) now-s ∙ kind-back x c s (r .unpromotion) k (move .marked)
+  -- un-make gives b's men back
+  pub unmade-back : unmade p r ≡ earlier (b .men)
+  unmade-back =
+      ap (λ (z : Color). unmadeBy (wayBack z p r) z p r) (opp-opp c) ∙ ap (λ (z : Way). unmadeBy z c p r) same-way ∙ ap earlier same-men
 
-    t≢s : t ≢ s
-    t≢s q = false≢true (sym (numbered-not-of c u) ∙ ap (isOf c) (sym (move .taken) ∙ ap (b .men) (sym q)) ∙ move .mine)
+  -- and no right that b has not
+  pub rights-back : (d : Color) (i : Side) → regained w c (p .rights) d i ≡ true → b .rights d i ≡ true
+  rights-back = regained-in w c t s (b .rights) has-right
+    where
+      has-right : (d : Side) → w ≡ castling d → b .rights c d ≡ true
+      has-right d e = right _ _ (left _ _ (subst (λ (z : Way). goes b z t s u ≡ true) e (move .going)))
 
-    no-pawn : (q : ℕ) → q < 64 → not (isPawn (b .men q) and edge q) ≡ true
-    no-pawn q h = all-at 64 (λ j. not (isPawn (b .men j) and edge j)) (a-b .pawns) q h
+  -- as a strict test sees it
+  complete-at : soulsOk (b .men) ≡ true → (w ≡ passant → stepOk (b .men) (b .turn) (b .state) ≡ true) → agrees st (replayed b r k .state) ≡ true
+      → strict p r ≡ true
+  complete-at few stepped agr =
+      ap (λ (z : Color). strictBy (wayBack z p r) z (unmadeBy (wayBack z p r) z p r) p r) (opp-opp c)
+      ∙ ap (λ (z : Way). strictBy z c (unmadeBy z c p r) p r) same-way
+      ∙ ap (λ (z : Men). strictBy w c (earlier z) p r) same-men
+      ∙ both (both (both (both can accepts-it) counted) (right _ _ (left _ _ leg))) agr
+    where
+      same-kind : promotedTo (r .unpromotion) (p .men s) ≡ k
+      same-kind = ap (promotedTo (r .unpromotion)) now-s ∙ kind-back x c s (r .unpromotion) k (move .marked)
 
-    step : possible (earlier (b .men)) r (promotedTo (r .unpromotion) (p .men s)) ≡ true
-    step = possible-by (earlier (b .men)) r (promotedTo (r .unpromotion) (p .men s)) (record {
-      source-in = move .source-in;
-      target-in = move .target-in;
-      small = move .small;
-      mine = move .mine;
-      taken = move .taken;
-      marked = subst (λ (z : ℕ). markOk x c s (r .unpromotion) z ≡ true) (sym same-kind) (move .marked);
-      going = goes-on w b t s u (p .rights) (move .going);
-    })
+      t≢s : t ≢ s
+      t≢s q = false≢true (sym (numbered-not-of c u) ∙ ap (isOf c) (sym (move .taken) ∙ ap (b .men) (sym q)) ∙ move .mine)
 
-    can : retractable w c (earlier (b .men)) p r ≡ true
-    can =
-        both (both (both
-        (both (lt-ltb s 64 (move .source-in)) (subst (λ (z : Man). isOf c z ≡ true) (sym now-s) (arriving-of x c s (r .unpromotion) k (move .mine) (move .marked))))
-        (both (lt-ltb t 64 (move .target-in)) (ap isEmpty (left-bare w c t s a (b .men) t≢s (λ d q. castling-is x t s u c d (move .mine) q .0)))))
-        (kept-free (b .rights) c t s))
-        (both (both (both (undone w b t s u a pass (move .going) (move .source-in) (move .taken) (move .mine) refl)
-        (subst (λ (z : Man). not (isPawn z and edge s) ≡ true) (move .taken) (no-pawn s (move .source-in))))
-        (no-pawn t (move .target-in))) step)
+      no-pawn : (q : ℕ) → q < 64 → not (isPawn (b .men q) and edge q) ≡ true
+      no-pawn q h = all-at 64 (λ j. not (isPawn (b .men j) and edge j)) (a-b .pawns) q h
 
-    has-right : (d : Side) → w ≡ castling d → b .rights c d ≡ true
-    has-right d e = right _ _ (left _ _ (subst (λ (z : Way). goes b z t s u ≡ true) e (move .going)))
+      step : possible (earlier (b .men)) r (promotedTo (r .unpromotion) (p .men s)) ≡ true
+      step = possible-by (earlier (b .men)) r (promotedTo (r .unpromotion) (p .men s)) (record {
+        source-in = move .source-in;
+        target-in = move .target-in;
+        small = move .small;
+        mine = move .mine;
+        taken = move .taken;
+        marked = subst (λ (z : ℕ). markOk x c s (r .unpromotion) z ≡ true) (sym same-kind) (move .marked);
+        going = goes-on w b t s u (p .rights) (move .going);
+      })
 
-    counted : counts (earlier (b .men)) ≡ true
-    counted = both few (step-on w b t s u (move .going) stepped)
+      can : retractable w c (earlier (b .men)) p r ≡ true
+      can =
+          both (both (both
+          (both (lt-ltb s 64 (move .source-in)) (subst (λ (z : Man). isOf c z ≡ true) (sym now-s) (arriving-of x c s (r .unpromotion) k (move .mine) (move .marked))))
+          (both (lt-ltb t 64 (move .target-in)) (ap isEmpty (left-bare w c t s a (b .men) t≢s (λ d q. castling-is x t s u c d (move .mine) q .0)))))
+          (kept-free (b .rights) c t s))
+          (both (both (both (undone w b t s u a pass (move .going) (move .source-in) (move .taken) (move .mine) refl)
+          (subst (λ (z : Man). not (isPawn z and edge s) ≡ true) (move .taken) (no-pawn s (move .source-in))))
+          (no-pawn t (move .target-in))) step)
 
-    accepts-it : accepted (earlier (b .men)) ≡ true
-    accepts-it = accepted-by (earlier (b .men)) (record {
-      kings = a-b .kings;
-      pawns = a-b .pawns;
-      rights = fewer (b .men) (b .rights) (regained w c (p .rights)) (regained-in w c t s (b .rights) has-right) (a-b .rights);
-      state = state-on w b t s u pass (move .going);
-      calm = a-b .calm;
-    })
+      counted : counts (earlier (b .men)) ≡ true
+      counted = both few (step-on w b t s u (move .going) stepped)
+
+      accepts-it : accepted (earlier (b .men)) ≡ true
+      accepts-it = accepted-by (earlier (b .men)) (record {
+        kings = a-b .kings;
+        pawns = a-b .pawns;
+        rights = fewer (b .men) (b .rights) (regained w c (p .rights)) rights-back (a-b .rights);
+        state = state-on w b t s u pass (move .going);
+        calm = a-b .calm;
+      })
 
 -- from an earlier board to strict; a board whose move is no capture en passant is asked for no double step
 pub complete-by : (e p : Pos) (r : ChessRetraction) (k : ℕ) → accepted e ≡ true → soulsOk (e .men) ≡ true
@@ -290,7 +299,7 @@ pub complete-by : (e p : Pos) (r : ChessRetraction) (k : ℕ) → accepted e ≡
 complete-by e p r k ok few stepped leg men turn rights terms agr =
     subst (λ (b : Bool). b ≡ true)
     (λ i. strict (record { men = men i; turn = turn i; rights = rights i; state = p .state; terms = terms i }) r)
-    (complete-at e r k (p .state) ok few stepped leg agr)
+    (complete-at e r k (p .state) ok leg few stepped agr)
 
 pub complete : (e p : Pos) (r : ChessRetraction) (k : ℕ) → Gives e p r k → strict p r ≡ true
 complete e p r k h =

@@ -105,7 +105,7 @@ under a a′ true false h = and-false (a and true) ∙ sym (and-false (a′ and 
 under a a′ false f h = ap (λ (z : Bool). z and f) (and-false a ∙ sym (and-false a′))
 
 -- a man stands beside that square before the double step where one does today
-neighbours-stay : (b : Bool) (c : Color) (t s : ℕ) (x y : Man) (m : Men) (z : Man) → undoable (cond b passant plain) c s m ≡ true → ranks t s ≡ 2
+pub neighbours-stay : (b : Bool) (c : Color) (t s : ℕ) (x y : Man) (m : Men) (z : Man) → undoable (cond b passant plain) c s m ≡ true → ranks t s ≡ 2
     → beside (before (cond b passant plain) c t s x y m) z s ≡ beside m z s
 neighbours-stay b c t s x y m z h e =
     any-cong 64 _ _ (λ k _. under _ _ _ _ (λ r f. ap (λ (i : Man). sameMan i z) (unmoved b c t s k x y m h e (eqb-true _ _ r) (eqb-true _ _ f))))

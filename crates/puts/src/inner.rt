@@ -1,4 +1,5 @@
-// Bytes, numbers and sets put behind the first bytes of an answer, which stays as it is where there is no room.
+// Bytes, numbers, sets and retractions put behind the first bytes of an answer, which stays as it is where there is no room.
+use laws::ChessRetraction;
 use refusal::Refusal;
 ghost use Rattle.puts.specs.inner.Growing.{Grows};
 
@@ -53,6 +54,17 @@ pub fn member(out: &mut [u8; 65536], len: usize, i: usize, x: u64) -> usize
         return number(out, len, x);
     }
     next_number(out, len, x)
+}
+
+// A retraction, packed.
+pub fn retraction(out: &mut [u8; 65536], len: usize, r: ChessRetraction) -> usize
+    ensures { λ r. ⌜ Grows len r ⌝ }
+{
+    let men = r.source as u64 + 64 * (r.target as u64) + 4096 * (r.uncaptured as u64);
+    if r.unpromotion {
+        return number(out, len, men + 32768);
+    }
+    number(out, len, men)
 }
 
 // Six sets, single spaces between.

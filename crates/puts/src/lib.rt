@@ -1,2 +1,2 @@
 // What the program `ask` puts into an answer.
-pub mod inner; // inner.rt: bytes, numbers and sets put behind the first bytes
+pub mod inner; // inner.rt: bytes, numbers, sets and retractions put behind the first bytes

@@ -6,13 +6,12 @@ use native.Mathlib.Omega.{arith}
 use lib.Dec.{eqb}
 use borrow.Author.Tests.{eqb-false}
 use Rattle.laws.specs.declared.Position.{Position}
-use Rattle.refusal.specs.declared.Refusal.{Refusal}
-use Rattle.refusal.specs.declared.Refusal.the-variants.{Men as men, Kings as kings, Pawn as pawn, Rights as rights, Passant as passant, Check as check, Stale as stale, Full as full, Source as source, Target as target, Held as held, Step as step, Room as room, Text as text}
+use Rattle.refusal.specs.declared.Refusal.the-variants.{Text as text}
 use Rattle.refusal.specs.declared.Verdict.{Verdict}
 use Rattle.refusal.specs.declared.Verdict.the-variants.{Accepted, Refused}
-use Rattle.refusal.specs.Refusals.{numberOf, verdictNumber}
+use Rattle.refusal.specs.Refusals.{verdictNumber}
 use Rattle.refusal.specs.Said.{firstFailing}
-use Rattle.refusal.proofs.Saying.{some-number, number-one}
+use Rattle.refusal.proofs.Saying.{some-number, number-low, number-one}
 use Rattle.accept.specs.Verdicts.{judgedOf, rawTests}
 use Rattle.accept.proofs.Numbered.{judged-number}
 use Rattle.board.specs.declared.RetractableBoard.{RetractableBoard}
@@ -28,23 +27,6 @@ use Rattle.records.specs.declared.Outcome.the-variants.{Taken, Refused a
 use Rattle.records.specs.declared.Recorded.{Recorded}
 use Rattle.records.specs.Entries.{whyNumber, outcomeNumber, numberFor, Gives}
 use Rattle.records.specs.inner.Answering.{noRecord, taken, recordedBy, recordSaid, knownSaid}
-
--- document 01's numbers end with 14
-number-low : (r : Refusal) → numberOf r ≤ 14
-number-low men = omega arith
-number-low kings = omega arith
-number-low pawn = omega arith
-number-low rights = omega arith
-number-low passant = omega arith
-number-low check = omega arith
-number-low stale = omega arith
-number-low full = omega arith
-number-low source = omega arith
-number-low target = omega arith
-number-low held = omega arith
-number-low step = omega arith
-number-low room = omega arith
-number-low text = omega arith
 
 pub verdict-low : (v : Verdict) → verdictNumber v ≤ 14
 verdict-low Accepted = omega arith

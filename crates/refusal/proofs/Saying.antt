@@ -2,7 +2,7 @@
 use mathlib.Core.Path.{_≡_, refl, sym, ap, _∙_}
 use mathlib.Core.Bool.{Bool, true, false, cond, false≢true}
 use mathlib.Core.List.{List, [], _∷_, _++_}
-use Prim.Native.Nat.{ℕ}
+use Prim.Native.Nat.{ℕ, _≤_}
 use native.Mathlib.Omega.{arith}
 use lib.Dec.{eqb}
 use lib.ListN.{getD}
@@ -29,6 +29,23 @@ some-number held = refl
 some-number step = refl
 some-number room = refl
 some-number text = refl
+
+-- document 01's numbers end with 14
+pub number-low : (r : Refusal) → numberOf r ≤ 14
+number-low men = omega arith
+number-low kings = omega arith
+number-low pawn = omega arith
+number-low rights = omega arith
+number-low passant = omega arith
+number-low check = omega arith
+number-low stale = omega arith
+number-low full = omega arith
+number-low source = omega arith
+number-low target = omega arith
+number-low held = omega arith
+number-low step = omega arith
+number-low room = omega arith
+number-low text = omega arith
 
 -- tests behind tests
 pub more-tests : (ts us : List Test) → firstFailing (ts ++ us) ≡ cond (eqb (firstFailing ts) 0) (firstFailing us) (firstFailing ts)

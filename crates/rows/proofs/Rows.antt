@@ -14,7 +14,7 @@ use Rattle.squares.specs.Members.{concat}
 use Rattle.laws.specs.declared.ChessRetraction.{ChessRetraction}
 use Rattle.laws.specs.Retractions.{unpacked}
 use Rattle.men_field.specs.Placement.{squareName}
-use Rattle.rows.specs.Rows.{uncapturedLetter, markByte, rowBy, rowOf, isIn, plus, minus, star, listedRow, strictRow}
+use Rattle.rows.specs.Rows.{uncapturedLetter, markByte, fieldsBy, rowBy, rowOf, isIn, plus, minus, star, listedRow, strictRow}
 
 -- the search stands on the slot, or goes on past another
 module _ (slot : ℕ) (l : List ℕ) (i : ℕ) (h : i < length l) where
@@ -41,11 +41,16 @@ letter-none (suc (suc (suc (suc zero)))) a b c d e = absurd (d refl)
 letter-none (suc (suc (suc (suc (suc zero))))) a b c d e = absurd (e refl)
 letter-none (suc (suc (suc (suc (suc (suc n)))))) a b c d e = refl
 
--- the eleven bytes of a row
-pub row-is : (slot sign letter mark : ℕ) (r : ChessRetraction) → r ≡ unpacked slot → letter ≡ uncapturedLetter (r .uncaptured) → mark ≡ markByte (r .unpromotion)
-    → (97 + file (r .source)) ∷ (49 + rank (r .source)) ∷ (97 + file (r .target)) ∷ (49 + rank (r .target)) ∷ 32 ∷ letter ∷ 32 ∷ mark ∷ 32 ∷ sign ∷ 10 ∷ [] ≡ rowOf slot sign
-row-is slot sign letter mark r e a b =
-    ap₂ (λ (x y : ℕ). squareName (r .source) ++ squareName (r .target) ++ (32 ∷ x ∷ 32 ∷ y ∷ 32 ∷ sign ∷ 10 ∷ [])) a b ∙ ap (λ (x : ChessRetraction). rowBy x sign) e
+-- the eight bytes of a retraction's fields, and the eleven of a row
+pub fields-is : (letter mark : ℕ) (r : ChessRetraction) → letter ≡ uncapturedLetter (r .uncaptured) → mark ≡ markByte (r .unpromotion)
+    → (97 + file (r .source)) ∷ (49 + rank (r .source)) ∷ (97 + file (r .target)) ∷ (49 + rank (r .target)) ∷ 32 ∷ letter ∷ 32 ∷ mark ∷ [] ≡ fieldsBy r
+fields-is letter mark r a b = ap₂ (λ (x y : ℕ). squareName (r .source) ++ squareName (r .target) ++ (32 ∷ x ∷ 32 ∷ y ∷ [])) a b
+
+pub row-is : (slot sign : ℕ) (f : List ℕ) (r : ChessRetraction) → r ≡ unpacked slot → f ≡ fieldsBy r
+    → getD f 0 0 ∷ getD f 1 0 ∷ getD f 2 0 ∷ getD f 3 0 ∷ getD f 4 0 ∷ getD f 5 0 ∷ getD f 6 0 ∷ getD f 7 0 ∷ 32 ∷ sign ∷ 10 ∷ [] ≡ rowOf slot sign
+row-is slot sign f r e h =
+    ap (λ (g : List ℕ). getD g 0 0 ∷ getD g 1 0 ∷ getD g 2 0 ∷ getD g 3 0 ∷ getD g 4 0 ∷ getD g 5 0 ∷ getD g 6 0 ∷ getD g 7 0 ∷ 32 ∷ sign ∷ 10 ∷ []) h
+    ∙ ap (λ (x : ChessRetraction). rowBy x sign) e
 
 -- the row by what the search for the slot in the other list answers
 pub listed-row : (strict : List ℕ) (slot : ℕ) (t : Bool) → t ≡ isIn slot strict → rowOf slot (cond t plus minus) ≡ listedRow strict slot

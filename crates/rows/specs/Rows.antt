@@ -40,10 +40,13 @@ minus = 45
 abbrev pub star : ℕ
 star = 42
 
--- "Fields: source and target; uncaptured letter or `.`; `=` for un-promotion or `.`", and the sign, with single spaces, to a line
+-- "Fields: source and target; uncaptured letter or `.`; `=` for un-promotion or `.`", with single spaces
+abbrev pub fieldsBy : ChessRetraction → List ℕ
+fieldsBy r = squareName (r .source) ++ squareName (r .target) ++ (32 ∷ uncapturedLetter (r .uncaptured) ∷ 32 ∷ markByte (r .unpromotion) ∷ [])
+
+-- and the sign, to a line
 abbrev pub rowBy : ChessRetraction → ℕ → List ℕ
-rowBy r sign =
-    squareName (r .source) ++ squareName (r .target) ++ (32 ∷ uncapturedLetter (r .uncaptured) ∷ 32 ∷ markByte (r .unpromotion) ∷ 32 ∷ sign ∷ 10 ∷ [])
+rowBy r sign = fieldsBy r ++ (32 ∷ sign ∷ 10 ∷ [])
 
 abbrev pub rowOf : ℕ → ℕ → List ℕ
 rowOf slot sign = rowBy (unpacked slot) sign

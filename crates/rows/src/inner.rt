@@ -7,7 +7,7 @@ ghost use lib.ListN.{length, take};
 ghost use Rattle.io.specs.Counts.{Counts};
 ghost use Rattle.output.specs.Appending.{Adds};
 ghost use Rattle.squares.specs.Members.{concat};
-ghost use Rattle.rows.specs.Rows.{uncapturedLetter, markByte, rowOf, isIn, listedRow, strictRow, headOf, checkersLine};
+ghost use Rattle.rows.specs.Rows.{uncapturedLetter, markByte, fieldsBy, rowOf, isIn, listedRow, strictRow, headOf, checkersLine};
 
 pub fn contains(slots: &[u16], slot: u16) -> bool
     ensures { λ r. ⌜ r ≡ isIn slot (now (slots .entry)) ⌝ }
@@ -41,11 +41,10 @@ fn mark(unpromotion: bool) -> u8
     if unpromotion { b'=' } else { b'.' }
 }
 
-// The row of a retraction, with its sign.
-fn row(slot: u16, sign: u8) -> [u8; 11]
-    ensures { λ r. ⌜ r ≡ rowOf slot sign ⌝ }
+// The fields of a retraction: source and target, the uncaptured man, the mark.
+pub fn fields_of(r: ChessRetraction) -> [u8; 8]
+    ensures { λ t. ⌜ t ≡ fieldsBy r ⌝ }
 {
-    let r = ChessRetraction::unpack(slot);
     let letter = uncaptured_letter(r.uncaptured);
     let mark = mark(r.unpromotion);
     [
@@ -57,6 +56,23 @@ fn row(slot: u16, sign: u8) -> [u8; 11]
         letter,
         b' ',
         mark,
+    ]
+}
+
+// The row of a retraction, with its sign.
+fn row(slot: u16, sign: u8) -> [u8; 11]
+    ensures { λ r. ⌜ r ≡ rowOf slot sign ⌝ }
+{
+    let f = fields_of(ChessRetraction::unpack(slot));
+    [
+        f[0],
+        f[1],
+        f[2],
+        f[3],
+        f[4],
+        f[5],
+        f[6],
+        f[7],
         b' ',
         sign,
         b'\n',

@@ -1,3 +1,4 @@
 pub mod Unique
 pub mod Told
 pub mod Numbered
+pub mod Onward

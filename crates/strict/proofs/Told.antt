@@ -6,7 +6,6 @@ use mathlib.Core.List.{List, [], _∷_, map}
 use Prim.Native.Nat.{ℕ, zero, suc, _+_, _*_, _/_, _%_, _≤_, _<_}
 use lib.Dec.{eqb}
 use native.Mathlib.Omega.{arith}
-use borrow.Author.Tests.{eq-eqb}
 use lib.ListN.{length}
 use Rattle.laws.specs.declared.ChessRetraction.{ChessRetraction}
 use Rattle.laws.specs.declared.Board.{Board}
@@ -16,14 +15,13 @@ use Rattle.laws.specs.Strictness.{strict}
 use Rattle.squares.specs.Squares.{flag}
 use Rattle.squares.specs.Members.{numbersFrom}
 use Rattle.laws.specs.StrictLists.{place, retractionAt, strictPlaces, Ascending, In, here}
-use Rattle.laws.specs.Boards.{acceptedBoard, BoardPast}
+use Rattle.laws.specs.Boards.{BoardPast}
 use Rattle.refusal.specs.declared.Refusal.{Refusal}
 use Rattle.refusal.specs.declared.Verdict.the-variants.{Accepted, Refused}
 use Rattle.refusal.specs.Refusals.{numberOf}
-use Rattle.accept.specs.Verdicts.{thirdOf, fiveOf, judgedOf}
 use Rattle.refusal.specs.Said.{firstFailing, told, Writes}
 use Rattle.board.specs.declared.RetractableBoard.{RetractableBoard}
-use Rattle.board.specs.Gate.{posOn, toLaws, freshOn, gateOf, boardTests}
+use Rattle.board.specs.Gate.{posOn, toLaws, gateOf, boardTests}
 use Rattle.slots.specs.declared.Listed.{Listed}
 use Rattle.slots.specs.declared.Listed.the-variants.{Refused as notListed}
 use Rattle.slots.specs.Slots.{listedSays}
@@ -31,25 +29,13 @@ use Rattle.strict_search.specs.inner.Searching.{strictMoves, testOf, Next}
 use Rattle.strict.specs.declared.Counted.the-variants.{Count, Refused as notCounted}
 use Rattle.strict.specs.declared.LastMove.the-variants.{Exists, NoLastMove, Refused as notAnswered}
 use Rattle.strict.specs.Demand.{Past, IsStrictList, Lists, Counts, Answers}
-use Rattle.squares.proofs.Testing.{both, left, right}
-use Rattle.laws.proofs.Facts.{accepts}
 use Rattle.laws.proofs.StrictMembers.{map-in, in-map, in-passes, placed-place, strict-in, strict-order, strict-member}
 use Rattle.laws.proofs.BoardPasts.{demand3}
 use Rattle.refusal.proofs.Saying.{never, behind-by}
 use Rattle.refusal.proofs.Writing.{no-both, writes-behind, writes-refused}
-use Rattle.board.proofs.Passing.{Passed, gate-passed}
+use Rattle.board.proofs.Passing.{gate-passed, gate-by, accepted-by-gate}
 use Rattle.board.proofs.Numbers.{gate-refuses, gate-passes}
 use Rattle.strict_search.proofs.Remaining.{rest, all-rest, at-end, one-more}
-
--- the Laws' record of a board is accepted exactly when the gate lets the board pass
-pub gate-by : (b : RetractableBoard) → acceptedBoard (toLaws b) ≡ true → gateOf b ≡ Accepted
-unfolding gateOf judgedOf fiveOf thirdOf freshOn
-gate-by b h =
-    let a = accepts (posOn b) (right _ _ (left _ _ h)) in rw (left _ _ (left _ _ h), a .kings, a .pawns, a .rights, a .state, a .calm, right _ _ h)
-
-accepted-by-gate : (b : RetractableBoard) → gateOf b ≡ Accepted → acceptedBoard (toLaws b) ≡ true
-accepted-by-gate b h =
-    let p : Passed b = gate-passed b h in both (both (p .men-agree) (p .lawful)) (both (both (eq-eqb _ _ (p .union-is)) (eq-eqb _ _ (p .checkers-are))) (eq-eqb _ _ (p .pins-are)))
 
 abbrev fromLaws : Board → RetractableBoard
 fromLaws e = record {
@@ -76,7 +62,7 @@ flag-is zero h = refl
 flag-is (suc zero) h = refl
 flag-is (suc (suc n)) h = absurd (omega arith)
 
-place-placed : (j : ℕ) → j < 49152 → place (retractionAt j) ≡ j
+pub place-placed : (j : ℕ) → j < 49152 → place (retractionAt j) ≡ j
 place-placed j h =
     ap (λ (x : ℕ). j / 768 * 768 + (j / 12 % 64 * 12 + (j / 2 % 6 * 2 + x))) (flag-is (j % 2) (omega arith)) ∙ omega (arith, sixth, twelfth)
   where

@@ -89,7 +89,8 @@ one-count b r q x y =
     ∙ behind-any (boardTests b) _ _ (λ h. ap (λ (l : List ChessRetraction). told (length l ∷ [])) (one-where b (x .moves) (y .moves) (x .exact) (y .exact) h))
     ∙ sym (y .answer))
 
-no-refusal : {A : Type 0} (why : Refusal) → 0 ≡ numberOf why → A
+-- no refusal has the number 0
+pub no-refusal : {A : Type 0} (why : Refusal) → 0 ≡ numberOf why → A
 no-refusal why e = absurd (never why (sym (verdict-one Accepted (Refused why) e)))
 
 -- "no last move" and a last move are never both allowed

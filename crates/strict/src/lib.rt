@@ -1,9 +1,11 @@
 // The strict list of a board: demand 3.
 use board::RetractableBoard;
+use laws::ChessRetraction;
 use refusal::Refusal;
 use refusal::Verdict;
 use slots::Listed;
 ghost use Rattle.strict.specs.Demand.{Lists, Counts, Answers};
+ghost use Rattle.strict.specs.Onward.{Finds};
 
 pub mod inner; // inner.rt: the position of an accepted board, and its strict list
 
@@ -16,6 +18,18 @@ pub enum Counted {
 pub enum LastMove {
     Exists,
     NoLastMove,
+    Refused(Refusal),
+}
+
+// A retraction with its place in the order of all of them.
+pub struct Placed {
+    pub place: usize,
+    pub retraction: ChessRetraction,
+}
+
+pub enum Found {
+    At(Placed),
+    NoMore,
     Refused(Refusal),
 }
 
@@ -61,6 +75,32 @@ pub fn last_move(b: RetractableBoard) -> LastMove
                 return LastMove::Exists;
             }
             LastMove::NoLastMove
+        }
+    }
+}
+
+// The first strict retraction of a board from a place of the order on: refusals 1 to 7. Whoever goes on behind the place found has gone through the
+// strict list and kept none of it.
+pub fn strict_from(b: RetractableBoard, start: usize) -> Found
+    ensures { λ r. ⌜ Finds b start r ⌝ }
+{
+    let t = tables::between_table();
+    let v = board::inner::gate(&t, b);
+    match v {
+        Verdict::Refused(why) => Found::Refused(why),
+        Verdict::Accepted => {
+            if start >= strict_search::inner::PLACES {
+                return Found::NoMore;
+            }
+            let p = inner::today(b);
+            let j = strict_search::inner::next_from(&t, p, start);
+            if j < strict_search::inner::PLACES {
+                return Found::At(Placed {
+                    place: j,
+                    retraction: strict_search::inner::candidate(j),
+                });
+            }
+            Found::NoMore
         }
     }
 }

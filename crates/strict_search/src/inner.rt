@@ -23,7 +23,7 @@ const OF_A_SOURCE: usize = 768;
 const OF_A_PAIR: usize = 12;
 
 // The retraction at a place.
-fn candidate(i: usize) -> ChessRetraction
+pub fn candidate(i: usize) -> ChessRetraction
     requires { ⌜ i < 49152 ⌝ }
     ensures { λ r. ⌜ r ≡ retractionAt i ⌝ }
 {

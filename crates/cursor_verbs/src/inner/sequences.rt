@@ -1,5 +1,4 @@
 // What each press of a board's cursor yields.
-use laws::ChessRetraction;
 use refusal::Verdict;
 use retraction_gen::Made;
 use retraction_gen::Next;
@@ -50,7 +49,7 @@ fn put_press(answer: Next, out: &mut [u8; 65536], len: usize) -> usize
 {
     let a = gap(out, len);
     match answer {
-        Next::Retraction(r) => puts::inner::number(out, a, packed(r)),
+        Next::Retraction(r) => puts::inner::retraction(out, a, r),
         Next::End => puts::inner::bytes(out, a, b"end"),
     }
 }
@@ -63,9 +62,4 @@ fn gap(out: &mut [u8; 65536], len: usize) -> usize
         return 0;
     }
     puts::inner::bytes(out, len, b" ")
-}
-
-fn packed(r: ChessRetraction) -> u64 {
-    let men = r.source as u64 + 64 * (r.target as u64) + 4096 * (r.uncaptured as u64);
-    if r.unpromotion { men + 32768 } else { men }
 }
