@@ -17,13 +17,14 @@ def build_oracle():
 
 
 def newest_source():
-    parts = [ROOT + '/oracle/' + p for p in ('brute', 'rust', 'gen', 'judge', 'lastmoves', 'pgn', 'screen', 'scripts.py', 'table.py', 'editions.py', 'records.py')]
+    sources = ('brute', 'rust', 'gen', 'judge', 'lastmoves', 'pgn', 'histories', 'screen', 'scripts.py', 'table.py', 'editions.py', 'records.py')
+    parts = [ROOT + '/oracle/' + name for name in sources]
     files = [os.path.join(d, f) for p in parts for d, _, names in os.walk(p) for f in names]
     return max(map(os.path.getmtime, files + parts))
 
 
 def programs(built, names=('lastmoves', 'ask')):
-    """The commands of these programs: LASTMOVES, STEP, ASK, SHOW_TABLES of the environment, else target/bin's, proved first unless `built`."""
+    """The commands of these programs: LASTMOVES, STEP, ASK, SHOW_TABLES, HISTORIES of the environment, else target/bin's, proved first unless `built`."""
     own = [n for n in names if n.upper() not in os.environ]
     if own and not built and subprocess.run(['rt', 'check'] + own, cwd=ROOT, stdout=sys.stderr).returncode:
         sys.exit('rt check %s failed' % ' '.join(own))
