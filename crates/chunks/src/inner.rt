@@ -5,13 +5,14 @@ ghost use mathlib.Core.Path.{_≡_};
 ghost use mathlib.Core.Bool.{cond};
 ghost use Prim.Native.Nat.{_+_, _-_, _≤_, min};
 ghost use lib.Dec.{ltb};
+ghost use lib.ListN.{length};
 ghost use Rattle.chunks.specs.declared.Ending.the-variants.{Newline};
 ghost use Rattle.chunks.specs.Newlines.{stopFrom};
 ghost use Rattle.chunks.specs.inner.Splitting.{Fit, Cuts};
 
 // The place of the first newline from `at` on, or `end`.
-fn find(s: &[u8; 65536], at: usize, end: usize) -> usize
-    requires { ⌜ (at ≤ end) × (end ≤ 65536) ⌝ }
+pub fn find(s: &[u8], at: usize, end: usize) -> usize
+    requires { ⌜ (at ≤ end) × (end ≤ length (now s)) ⌝ }
     ensures { λ r. ⌜ (r ≡ stopFrom (now (s .entry)) at (end - at)) × (at ≤ r) × (r ≤ end) ⌝ }
 {
     let mut i = at;
@@ -31,7 +32,7 @@ fn least(a: usize, b: usize) -> usize
 }
 
 // The place past a newline at `stop`, or the end where there is none.
-fn past(stop: usize, end: usize) -> usize
+pub fn past(stop: usize, end: usize) -> usize
     requires { ⌜ stop ≤ end ⌝ }
     ensures { λ r. ⌜ (r ≡ cond (ltb stop end) (stop + 1) end) × (r ≤ end) ⌝ }
 {

@@ -24,17 +24,17 @@ copy-requires c κs = search needs
 past-requires : tie.Need-past-requires
 past-requires c κs = search needs
 
-add-t11 : tie.Need-add-t11
-add-t11 c = search needs
+add-t13 : tie.Need-add-t13
+add-t13 c = search needs
 
-sub-t17 : tie.Need-sub-t17
-sub-t17 c = search needs
+sub-t19 : tie.Need-sub-t19
+sub-t19 c = search needs
 
 ending-at-requires : tie.Need-ending-at-requires
 ending-at-requires c κs = search needs
 
 returns : tie.Need-returns
-returns c = record { cut = cut-is (now (c .before .before .before .before .before .before .before .before .args .chunk)) (now (c .before .before .before .before .before .before .before .before .args .line)) (c .before .before .before .copy .last .0) (c .before .before .before .before .before .before .before .before .args .p) (c .before .before .before .before .before .before .before .find .result) (c .before .before .before .before .before .before .least .result) (c .before .before .past .result) (c .ending-at .result) (c .before .before .before .before .before .before .before .find .ensures .0) (c .before .before .before .before .before .before .least .ensures .0) (c .before .before .past .ensures .0) (c .ending-at .ensures); keeps = line-is (now (c .before .before .before .before .before .before .before .before .args .chunk)) (now (c .before .before .before .before .before .before .before .before .args .line)) (c .before .before .before .copy .last .0) (c .before .before .before .before .before .before .before .before .args .p) (c .before .before .before .before .before .before .before .find .result) (c .before .before .before .before .before .before .least .result) (c .before .before .past .result) (c .ending-at .result) (c .before .before .before .before .before .before .before .find .ensures .0) (c .before .before .before .before .before .before .least .ensures .0) (c .before .before .before .copy .ensures); fits = record { unread = c .before .before .past .ensures .1; inside = c .before .before .before .before .before .before .before .before .pre .inside; short = omega arith }; wide = search needs }
+returns c = record { cut = cut-is (now (c .before .before .before .before .before .before .before .before .before .args .chunk)) (now (c .before .before .before .before .before .before .before .before .before .args .line)) (c .before .before .before .copy .last .0) (c .before .before .before .before .before .before .before .before .before .args .p) (c .before .before .before .before .before .before .before .find .result) (c .before .before .before .before .before .before .least .result) (c .before .before .past .result) (c .ending-at .result) (c .before .before .before .before .before .before .before .find .ensures .0) (c .before .before .before .before .before .before .least .ensures .0) (c .before .before .past .ensures .0) (c .ending-at .ensures); keeps = line-is (now (c .before .before .before .before .before .before .before .before .before .args .chunk)) (now (c .before .before .before .before .before .before .before .before .before .args .line)) (c .before .before .before .copy .last .0) (c .before .before .before .before .before .before .before .before .before .args .p) (c .before .before .before .before .before .before .before .find .result) (c .before .before .before .before .before .before .least .result) (c .before .before .past .result) (c .ending-at .result) (c .before .before .before .before .before .before .before .find .ensures .0) (c .before .before .before .before .before .before .least .ensures .0) (c .before .before .before .copy .ensures); fits = record { unread = c .before .before .past .ensures .1; inside = c .before .before .before .before .before .before .before .before .before .pre .inside; short = omega arith }; wide = search needs }
 
 pub cut-spec : {M : Type 1} → statement M
 cut-spec =
@@ -46,7 +46,7 @@ cut-spec =
     least-requires
     copy-requires
     past-requires
-    add-t11
-    sub-t17
+    add-t13
+    sub-t19
     ending-at-requires
     returns)

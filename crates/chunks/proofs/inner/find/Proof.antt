@@ -17,8 +17,8 @@ abbrev μ-loop : tie.MeasureT-loop
 loop-holds : tie.Need-loop-holds Inv-loop μ-loop
 loop-holds c = (omega arith, omega arith, refl)
 
-element-copy-out-if1 : tie.Need-element-copy-out-if1 Inv-loop μ-loop
-element-copy-out-if1 c = omega arith
+shared-slice-read-if1 : tie.Need-shared-slice-read-if1 Inv-loop μ-loop
+shared-slice-read-if1 c = omega arith
 
 returns : tie.Need-returns Inv-loop μ-loop
 returns c = (sym (c .before .before .before .loop .inv .2 ∙ stop-here (now (c .before .before .before .before .args .s)) (c .before .before .before .loop .i) (c .before .before .before .before .args .end) (omega arith) (c .if1 .taken)), omega arith, omega arith)
@@ -42,7 +42,7 @@ find-spec =
     Inv-loop
     μ-loop
     loop-holds
-    element-copy-out-if1
+    shared-slice-read-if1
     returns
     add-i
     loop-less
