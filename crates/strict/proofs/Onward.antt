@@ -27,7 +27,7 @@ use Rattle.board.proofs.Numbers.{gate-refuses, gate-passes, passed-gate}
 use Rattle.strict.proofs.Told.{strict-past, place-placed}
 use Rattle.strict.proofs.Unique.{no-refusal}
 
-place-in : (r : ChessRetraction) → InRange r → place r < 49152
+pub place-in : (r : ChessRetraction) → InRange r → place r < 49152
 place-in r h = go (r .unpromotion)
   where
     go : (b : Bool) → r .source * 768 + (r .target * 12 + (r .uncaptured * 2 + flag b)) < 49152
