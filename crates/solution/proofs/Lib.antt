@@ -1,0 +1,4 @@
+pub mod Marking
+pub mod Judging
+pub mod Answering
+pub mod Exactly
