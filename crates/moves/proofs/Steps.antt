@@ -111,14 +111,6 @@ pub came-up : (c : Color) (t s : ℕ) → pawnTakes c t s ≡ true → 0 < rankF
 unfolding pawnTakes
 came-up c t s e = let h : rankFor c s ≡ rankFor c t + 1 = eqb-true (rankFor c s) (rankFor c t + 1) (left _ _ e) in omega arith
 
-pub denied : (b : Bool) → not b ≡ true → b ≡ false
-denied true e = sym e
-denied false e = refl
-
-pub granted : (b : Bool) → not b ≡ false → b ≡ true
-granted true e = refl
-granted false e = sym e
-
 pub not-then : (a b : Bool) → a ≡ false → false ≡ (a and b)
 unfolding _and_
 not-then true b e = absurd (false≢true (sym e))

@@ -23,13 +23,12 @@ use Rattle.solution.specs.declared.Checked.the-variants.{Complete, Wrong
 use Rattle.solution.specs.Verdicts.{IsWrong, IsSaid, Tells}
 use Rattle.solution.specs.inner.Marked.{marked, Marks, Lacks}
 use Rattle.solution.specs.inner.Judged.{StrictAt}
-use Rattle.squares.proofs.Testing.{left, right, order}
+use Rattle.squares.proofs.Testing.{left, right, failed, granted, order}
 use Rattle.laws.proofs.StrictMembers.{placed-place, strict-in}
 use Rattle.strict.proofs.Told.{place-placed}
 use Rattle.strict.proofs.Onward.{place-in}
 use Rattle.solution_lines.proofs.Inverse.{says-one, says-something}
 use Rattle.solution_lines.proofs.Walking.{Through, there, line-is, first-so, one-more, walked, none-walked}
-use Rattle.solution_lines.proofs.Forms.{no, yes}
 use Rattle.solution.proofs.Marking.{Seen, seen-more}
 
 -- how far the walk is: none of the first n lines is wrong, and the marks are what they say
@@ -62,11 +61,11 @@ module _ (p : Pos) (s w : List ℕ) (at n : ℕ) (g : Goes p s w at n) (f : Tell
       go : (a : Bool) → strictFor p r ≡ a → (b : Bool) → marked w i ≡ b → t ≡ (a and not b) → IsWrong (StrictAt p) (linesOf s) n
       go false u b v k = inl (λ x y o. false≢true (sym u ∙ ap (strictFor p) (says-one says y) ∙ o))
       go true u true v k = inr (said .0 v)
-      go true u false v k = absurd (no t z k)
+      go true u false v k = absurd (failed t z k)
 
   right-one : not t ≡ false → IsWrong (StrictAt p) (linesOf s) n → ⊥
-  right-one z (inl k) = k r says (left _ _ (sym tq ∙ yes t z))
-  right-one z (inr k) = no (marked w i) (right (strictFor p r) _ (sym tq ∙ yes t z)) (said .1 k)
+  right-one z (inl k) = k r says (left _ _ (sym tq ∙ granted t z))
+  right-one z (inr k) = failed (marked w i) (right (strictFor p r) _ (sym tq ∙ granted t z)) (said .1 k)
 
   pub tells-wrong : not t ≡ true → Tells (StrictAt p) (linesOf s) (Wrong (n + 1))
   tells-wrong z = (f, first-so (IsWrong (StrictAt p) (linesOf s)) s at n (g .through) h stop e (wrong z))

@@ -20,7 +20,7 @@ use Rattle.strict_search.specs.inner.Searching.{Next}
 use Rattle.solution_lines.specs.Lines.{lineAt, Among}
 use Rattle.solution.specs.declared.Checked.the-variants.{Complete, Incomplete}
 use Rattle.solution.specs.inner.Marked.{marked, Marks, AllMarked, Lacks}
-use Rattle.squares.proofs.Testing.{bool-ext, order, either, or-left, or-right}
+use Rattle.squares.proofs.Testing.{bool-ext, order, either, or-left, or-right, denied}
 use Rattle.squares.proofs.Digits.{has-or, has-zero}
 use Rattle.squares.proofs.Comprehension.{has-setOf}
 use Rattle.laws.proofs.StrictMembers.{placed-place}
@@ -123,11 +123,7 @@ module _ (f m : ℕ → Bool) (i j : ℕ) (x : Next f i j) (a : AllMarked f m i)
       go (inr b) = let q : k ≡ j = omega arith in ap m q ∙ e
 
   pub lacks-here : j < 49152 → (q : ChessRetraction) → q ≡ retractionAt j → (t : Bool) → t ≡ m j → not t ≡ true → Lacks f m (Incomplete q)
-  lacks-here l q e t u z = (j, l, e, x .there l, sym u ∙ unmarked t z, so-far)
-    where
-      unmarked : (b : Bool) → not b ≡ true → b ≡ false
-      unmarked true k = absurd (false≢true k)
-      unmarked false k = refl
+  lacks-here l q e t u z = (j, l, e, x .there l, sym u ∙ denied t z, so-far)
 
 pub all-marked : (f m : ℕ → Bool) {j : ℕ} → AllMarked f m j → j ≡ 49152 → Lacks f m Complete
 all-marked f m a e = subst (AllMarked f m) e a

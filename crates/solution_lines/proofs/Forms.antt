@@ -1,7 +1,7 @@
 -- Which line is refused: one line more, the end of the lines, and that there is one answer.
 use mathlib.Core.Path.{_≡_, refl, sym, ap, subst}
 use mathlib.Core.Logic.{_↔_}
-use mathlib.Core.Bool.{Bool, true, false, not, cond, false≢true}
+use mathlib.Core.Bool.{Bool, true, false, not, cond}
 use mathlib.Core.List.{List}
 use Prim.Native.Nat.{ℕ, _+_, _-_, _≤_, _<_}
 use native.Mathlib.Omega.{arith}
@@ -13,16 +13,9 @@ use Rattle.solution_lines.specs.declared.Formed.{Formed}
 use Rattle.solution_lines.specs.declared.Formed.the-variants.{All, Line, Many}
 use Rattle.solution_lines.specs.Lines.{linesOf, lineAt, Says, NoneOf, FirstOf, OutOfForm, TellsForm}
 use Rattle.solution_lines.specs.inner.Reading.{leniently}
+use Rattle.squares.proofs.Testing.{failed, granted}
 use Rattle.solution_lines.proofs.Inverse.{says-read}
 use Rattle.solution_lines.proofs.Walking.{Through, there, line-is, first-so, one-more, walked, none-walked, first-one}
-
-pub no : (b : Bool) → not b ≡ true → b ≡ true → ⊥
-no true e f = false≢true e
-no false e f = false≢true f
-
-pub yes : (b : Bool) → not b ≡ false → b ≡ true
-yes true e = refl
-yes false e = absurd (false≢true (sym e))
 
 -- a turn of the loop: t says whether the line is in form
 module _ (s : List ℕ) (at n : ℕ) (x : Through (OutOfForm (linesOf s)) s at n) (h : at < length s) (stop : ℕ) (e : stop ≡ stopFrom s at (length s - at)) (t : Bool)
@@ -33,10 +26,10 @@ module _ (s : List ℕ) (at n : ℕ) (x : Through (OutOfForm (linesOf s)) s at n
   out : not t ≡ true → OutOfForm (linesOf s) n
   out z r w =
       let u : Says r (take (stop - at) (drop at s)) = subst (Says r) line w in
-      no t z (q .1 (subst (λ (v : ChessRetraction). Says v (take (stop - at) (drop at s))) (sym (says-read u)) u))
+      failed t z (q .1 (subst (λ (v : ChessRetraction). Says v (take (stop - at) (drop at s))) (sym (says-read u)) u))
 
   in-form : not t ≡ false → OutOfForm (linesOf s) n → ⊥
-  in-form z f = f (leniently (take (stop - at) (drop at s))) (subst (Says (leniently (take (stop - at) (drop at s)))) (sym line) (q .0 (yes t z)))
+  in-form z f = f (leniently (take (stop - at) (drop at s))) (subst (Says (leniently (take (stop - at) (drop at s)))) (sym line) (q .0 (granted t z)))
 
   pub tells-line : not t ≡ true → n ≤ 4096 → TellsForm (linesOf s) (Line (n + 1))
   tells-line z m = (first-so (OutOfForm (linesOf s)) s at n x h stop e (out z), omega arith)

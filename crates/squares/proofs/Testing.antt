@@ -94,6 +94,14 @@ pub failed : (b : Bool) → not b ≡ true → b ≡ true → ⊥
 failed true p q = false≢true p
 failed false p q = false≢true q
 
+pub denied : (b : Bool) → not b ≡ true → b ≡ false
+denied true e = sym e
+denied false e = refl
+
+pub granted : (b : Bool) → not b ≡ false → b ≡ true
+granted true e = refl
+granted false e = sym e
+
 -- a test passes, or not
 pub cases : (b : Bool) → (b ≡ true) ⊎ (b ≡ false)
 cases true = inl refl

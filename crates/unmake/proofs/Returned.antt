@@ -18,14 +18,13 @@ use Rattle.refusal.specs.Refusals.{verdictNumber}
 use Rattle.position.specs.declared.Positioned.{Positioned}
 use Rattle.position.specs.Answers.{positionOf, answered, refused}
 use Rattle.unmake.specs.Retracted.{sourceFor, targetFor, heldFor, stepFor, unmadeFor, steppedTo, unmadeTo}
-use Rattle.squares.proofs.Testing.{left, right, agree, agree-eq}
+use Rattle.squares.proofs.Testing.{left, right, agree, agree-eq, denied}
 use Rattle.laws.proofs.Cases.{by-cases}
 use Rattle.laws.proofs.ManSets.{men-on, men-ok}
 use Rattle.laws.proofs.Retracting.{canRetract}
 use Rattle.laws.proofs.Passes.{Passes, unmade-passes}
 use Rattle.laws.proofs.BoardPasts.{unmade-on}
 use Rattle.position.proofs.Composing.{position-shown, position-clean}
-use Rattle.moves.proofs.Steps.{denied}
 
 -- the answer of four tests
 abbrev answerBy : Position → (a b d e : Bool) → Positioned

@@ -2,8 +2,9 @@
 use mathlib.Core.Path.{_∙_, sym}
 use borrow.Author.Needs.{needs}
 use Rattle.geometry.specs.Steps.{pawnTakes}
+use Rattle.squares.proofs.Testing.{denied, granted}
 use Rattle.squares.proofs.Comprehension.{has-setOf}
-use Rattle.moves.proofs.Steps.{denied, granted, not-then, and-then, came-up}
+use Rattle.moves.proofs.Steps.{not-then, and-then, came-up}
 use Rattle.moves.proofs.inner.takes_passant.Statement.{statement}
 use Rattle.moves.proofs.inner.takes_passant.Tie as tie
 

@@ -3,7 +3,7 @@ use mathlib.Core.Path.{ap, sym, _∙_}
 use borrow.Author.Needs.{needs}
 use Rattle.position.specs.Answers.{answered}
 use Rattle.replay.specs.Replayed.{replayTo}
-use Rattle.moves.proofs.Steps.{denied, granted}
+use Rattle.squares.proofs.Testing.{denied, granted}
 use Rattle.replay.proofs.Forwards.{goes-of}
 use Rattle.replay.proofs.inner.replay.Statement.{statement}
 use Rattle.replay.proofs.inner.replay.Tie as tie

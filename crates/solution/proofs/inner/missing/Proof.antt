@@ -5,8 +5,8 @@ use native.Mathlib.Omega.{arith}
 use Rattle.laws.specs.Boards.{posAt}
 use Rattle.strict_search.specs.inner.Searching.{testOf}
 use Rattle.solution.specs.inner.Marked.{marked, AllMarked}
+use Rattle.squares.proofs.Testing.{granted}
 use Rattle.strict_search.proofs.Remaining.{inner}
-use Rattle.solution_lines.proofs.Forms.{yes}
 use Rattle.solution.proofs.Marking.{so-far, and-on, all-marked, lacks-here}
 use Rattle.solution.proofs.inner.missing.Statement.{statement}
 use Rattle.solution.proofs.inner.missing.Tie as tie
@@ -49,7 +49,7 @@ loop-again c =
     let d = c .before .before .before in
     let l = inner _ _ _ (d .next-from .ensures) (c .before .before .if1 .left) in (
       omega (arith, l),
-      and-on _ _ _ _ (d .next-from .ensures) (d .before .before .loop .inv .1) (sym (c .before .is-marked .ensures) ∙ yes _ (c .if2 .left)),
+      and-on _ _ _ _ (d .next-from .ensures) (d .before .before .loop .inv .1) (sym (c .before .is-marked .ensures) ∙ granted _ (c .if2 .left)),
     )
 
 returns-3 : tie.Need-returns-3 Inv-loop μ-loop

@@ -1,6 +1,6 @@
 -- `strict_test::inner::earlier_ok` meets its contract.
 use mathlib.Core.Path.{sym, _∙_}
-use Rattle.moves.proofs.Steps.{denied, granted}
+use Rattle.squares.proofs.Testing.{denied, granted}
 use Rattle.strict_test.proofs.Earlier.{miscounts, no-agreement, not-safe, then-calm}
 use borrow.Author.Needs.{needs}
 use Rattle.strict_test.proofs.inner.earlier_ok.Statement.{statement}

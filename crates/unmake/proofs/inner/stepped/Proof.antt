@@ -6,7 +6,7 @@ use borrow.Author.Needs.{needs}
 use Rattle.laws.specs.Boards.{posAt}
 use Rattle.position.specs.Answers.{answered}
 use Rattle.unmake.specs.Retracted.{steppedTo}
-use Rattle.moves.proofs.Steps.{denied, granted}
+use Rattle.squares.proofs.Testing.{denied, granted}
 use Rattle.unmake.proofs.Answering.{step-over, step-no, leaves, back-clean, step-is, position-is}
 use Rattle.unmake.proofs.inner.stepped.Statement.{statement}
 use Rattle.unmake.proofs.inner.stepped.Tie as tie

@@ -3,7 +3,7 @@ use mathlib.Core.Path.{_∙_, sym}
 use borrow.Author.Needs.{needs}
 use Rattle.laws.specs.Boards.{posAt}
 use Rattle.unmake.specs.Retracted.{unmadeTo}
-use Rattle.moves.proofs.Steps.{denied, granted}
+use Rattle.squares.proofs.Testing.{denied, granted}
 use Rattle.unmake.proofs.Answering.{source-in, target-in}
 use Rattle.unmake.proofs.inner.unmake.Statement.{statement}
 use Rattle.unmake.proofs.inner.unmake.Tie as tie
