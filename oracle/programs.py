@@ -25,7 +25,8 @@ def newest_source():
 
 
 def programs(built, names=('lastmoves', 'ask')):
-    """The commands of these programs: LASTMOVES, STEP, ASK, SHOW_TABLES, HISTORIES of the environment, else target/bin's, proved first unless `built`."""
+    """The commands of these programs: LASTMOVES, STEP, ASK, SHOW_TABLES, HISTORIES, SOLUTIONS of the environment, else target/bin's, proved first unless
+    `built`."""
     own = [n for n in names if n.upper() not in os.environ]
     if own and not built and subprocess.run(['rt', 'check'] + own, cwd=ROOT, stdout=sys.stderr).returncode:
         sys.exit('rt check %s failed' % ' '.join(own))
@@ -49,7 +50,11 @@ def load(name):
 
 
 def run(command, lines):
-    r = subprocess.run(command, input=b''.join(l + b'\n' for l in lines), stdout=subprocess.PIPE)
+    return run_file(command, b''.join(l + b'\n' for l in lines))
+
+
+def run_file(command, file):
+    r = subprocess.run(command, input=file, stdout=subprocess.PIPE)
     if r.returncode:
         sys.exit('%s: exit status %d' % (' '.join(command), r.returncode))
     return r.stdout

@@ -382,7 +382,7 @@ def sitting(rng, s):
 
 NO_VERBS = [b'', b'moves\t', b'\t', b'lists\t', b'raw ', b'piece', b'Count\t', b' strict\t', b'limite\t', b'cursor', b'gate,', b'unmak\xc3\t',
             b'press', b'presse\t', b'desks', b'desk\t', b'checkers', b'attacker\t', b'castlings\t',
-            b'history', b'histor\t', b'histories\t']
+            b'history', b'histor\t', b'histories\t', b'solution', b'solutio\t', b'solutions\t']
 FIELDS = {'raw': raw, 'piece': piece, 'attacked': attacked, 'setep': setep, 'cursor': cursor, 'press': cursor, 'gate': gate, 'desks': desks,
           'print': into(lambda b: len(b.text)), 'listinto': into(lambda b: len(b.listed)), 'strictinto': into(lambda b: len(b.strict))}
 
