@@ -1,6 +1,7 @@
 # Sourced by the scripts that start a program, with `top` the folder of the repository and `name` the program's. It makes
 #   fail STATUS WORDS   one line on standard error, and the end
-#   say_usage TEXT      a usage text on standard output, and the end
+#   say TEXT            on standard output, or the end where that cannot be written
+#   say_usage TEXT      a usage text, and the end
 #   need_input          fails where standard input is closed
 #   ready               proves and builds the program where its sources are newer than it, and finds the kit that it is run with
 #   answer [WORDS]      runs it
@@ -24,8 +25,10 @@ input=open
 
 need_input() { [ "$input" = open ] || fail 1 "the input cannot be read"; }
 
+say() { printf '%s\n' "$1" 2>/dev/null || fail 1 "the output cannot be written"; }
+
 say_usage() {
-    printf '%s\n' "$1" 2>/dev/null || fail 1 "the output cannot be written"
+    say "$1"
     exit 0
 }
 
