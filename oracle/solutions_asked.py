@@ -179,15 +179,17 @@ def questions(rng, texts, lists):
 
 
 def files(rng, texts, lists, n):
-    """Files of n texts; a last newline may be left out or doubled, and one in ten has a sign put in or a line more or less."""
+    """Files of n texts; a last newline may be left out or doubled, and one in ten is damaged."""
     few = rng.sample(list(zip(texts, lists)), min(n, len(texts)))
     asked = [b'\n'.join([text] + lines) + rng.choice([b'', b'\n', b'\n', b'\n\n']) for text, lines in solutions(rng, *zip(*few))]
     return [file if rng.random() < .9 else damaged(rng, file) for file in asked]
 
 
 def damaged(rng, file):
-    i = rng.randrange(len(file) + 1)
-    return rng.choice([file[:i] + rng.choice([b'\t', b'\r', b'\0', b'\n']) + file[i:], file[:i], file[i:], b''])
+    """A byte put in, an end cut off, nothing left, or lines that end with CR LF, the first or not."""
+    i, (position, newline, lines) = rng.randrange(len(file) + 1), file.partition(b'\n')
+    ended = [file.replace(b'\n', b'\r\n'), position + newline + lines.replace(b'\n', b'\r\n')]
+    return rng.choice(ended + [file[:i] + rng.choice([b'\t', b'\r', b'\0', b'\n']) + file[i:], file[:i], file[i:], b''])
 
 
 def kind(answer):
