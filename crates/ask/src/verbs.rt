@@ -9,13 +9,18 @@ pub(super) fn reply(line: &[u8], out: &mut [u8; 65536]) -> usize
     puts::inner::bytes(out, n, b"\n")
 }
 
-// A record may be of any length, so that the verbs by an edition have the whole line, and the others its first 512 bytes.
+// A record and a solution may be of any length, so that the verbs by an edition and `solution` have the whole line, and the others its first
+// 512 bytes.
 fn by_verb(line: &[u8], out: &mut [u8; 65536]) -> usize
     ensures { λ n. ⌜ Grows 0 n ⌝ }
 {
     let editions = edition_verbs::inner::answer(line, out);
     if editions > 0 {
         return editions;
+    }
+    let solutions = solution_verb::inner::answer(line, out);
+    if solutions > 0 {
+        return solutions;
     }
     let n = line.len();
     if n < 512 {
