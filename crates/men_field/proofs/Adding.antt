@@ -28,6 +28,14 @@ added-both {l} {m} {r} {s} {t} p q =
       len = omega (arith, p .len, q .len, length-append s t);
     }
 
+-- an empty line, and more behind what a line holds
+pub holds-none : (l : Line) → l .len ≡ 0 → Holds l []
+holds-none l e = record { text = ap (λ (n : ℕ). take n (l .bytes)) e; len = e }
+
+pub holds-more : {l r : Line} {t s : List ℕ} → Holds l t → Added l s r → Holds r (t ++ s)
+holds-more {l} {r} {t} {s} h a =
+    record { text = a .text ∙ ap (λ (x : List ℕ). x ++ s) (h .text); len = omega (arith, a .len, h .len, length-append t s) }
+
 flush-append : (n : ℕ) (s t : List ℕ) → flushOf n s ++ t ≡ flushOf n (s ++ t)
 flush-append zero s t = refl
 flush-append (suc n) s t = refl

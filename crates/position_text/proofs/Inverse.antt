@@ -56,7 +56,7 @@ says-one v t f g p q =
 pub read-clean : (m : Men) → sets.OnBoard m → Clean (kindSets m) (colorSets m)
 read-clean m on = record { kinds = ap kindSets (sym (men-shown m on)); colours = ap colorSets (sym (men-shown m on)) }
 
-read-square : (n : ℕ) → StateFits (flagOf n)
+pub read-square : (n : ℕ) → StateFits (flagOf n)
 read-square n = go (eqb n 64) (eqb n 65)
   where
     go : (x y : Bool) → StateFits (cond x None (cond y Any (Some (n % 64))))

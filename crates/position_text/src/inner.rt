@@ -135,7 +135,7 @@ pub fn copy(line: Line, out: &mut [u8]) -> Copied
     Copied::Count(n)
 }
 
-fn same(l: Line, t: &[u8]) -> bool
+pub fn same(l: Line, t: &[u8]) -> bool
     requires { ⌜ l .len ≤ 81 ⌝ }
     ensures { λ r. ⌜ SameAs (textOf l) (now (t .entry)) r ⌝ }
 {
@@ -255,7 +255,7 @@ fn turn_of(b: u8) -> Color
     Color::White
 }
 
-fn side_of(n: u8) -> CastleRights
+pub fn side_of(n: u8) -> CastleRights
     ensures { λ r. ⌜ r ≡ sideOf n ⌝ }
 {
     match n {
@@ -266,7 +266,7 @@ fn side_of(n: u8) -> CastleRights
     }
 }
 
-fn flag_of(n: u8) -> EnPassantFlag
+pub fn flag_of(n: u8) -> EnPassantFlag
     ensures { λ r. ⌜ r ≡ flagOf n ⌝ }
 {
     if n == 64 {
@@ -305,7 +305,7 @@ fn raw_of(s: Scan, edition: Edition) -> Raw
     }
 }
 
-fn no_raw() -> Raw
+pub fn no_raw() -> Raw
     ensures { λ r. ⌜ r ≡ noRaw ⌝ }
 {
     let position = position::inner::nothing();

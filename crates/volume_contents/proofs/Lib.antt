@@ -1,0 +1,4 @@
+pub mod Past
+pub mod Chain
+pub mod Walking
+pub mod Sound

@@ -1,0 +1,5 @@
+pub mod Filling
+pub mod Rows
+pub mod Sizes
+pub mod Bodies
+pub mod Told

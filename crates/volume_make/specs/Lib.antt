@@ -1,0 +1,3 @@
+pub mod Volumes
+pub mod Making
+pub mod inner

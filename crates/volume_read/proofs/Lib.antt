@@ -1,0 +1,4 @@
+pub mod Tables
+pub mod Boards
+pub mod Lining
+pub mod Told
