@@ -18,7 +18,7 @@ def build_oracle():
 
 def newest_source():
     sources = ('brute', 'rust', 'gen', 'judge', 'lastmoves', 'pgn', 'histories', 'solutions', 'screen', 'scripts.py', 'table.py', 'editions.py',
-               'records.py', 'verdicts.py')
+               'records.py', 'verdicts.py', 'volume', 'volumes.py')
     parts = [ROOT + '/oracle/' + name for name in sources]
     files = [os.path.join(d, f) for p in parts for d, _, names in os.walk(p) for f in names]
     return max(map(os.path.getmtime, files + parts))
