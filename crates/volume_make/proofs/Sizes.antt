@@ -42,7 +42,7 @@ pub bound-length : (ps : List Position) → length (bound ps) ≡ 6 + 42 * lengt
 bound-length ps = omega (arith, volume-length (numberedFrom 1 ps), numbered-length 1 ps)
 
 -- the rows of n old lines, from the row i on
-joined-front : (f : ℕ → List ℕ) (n : ℕ) → joined f (suc n) ≡ f 0 ++ joined (λ i. f (suc i)) n
+pub joined-front : (f : ℕ → List ℕ) (n : ℕ) → joined f (suc n) ≡ f 0 ++ joined (λ i. f (suc i)) n
 unfolding joined
 joined-front f zero = sym (append-nil (f 0))
 joined-front f (suc n) =

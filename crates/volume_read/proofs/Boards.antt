@@ -22,7 +22,7 @@ use Rattle.volume_lines.specs.Register.{linesOf}
 use Rattle.volume_read.specs.Reading.{bodyAt, HasBoard, Passes, Fails, Boards}
 use Rattle.volume_read.specs.inner.Scanning.{Sized, AnswersAt, AllGood, FirstBad}
 
-edition-one : (a b : Edition) → editionByte a ≡ editionByte b → a ≡ b
+pub edition-one : (a b : Edition) → editionByte a ≡ editionByte b → a ≡ b
 edition-one A A e = refl
 edition-one A B e = absurd (omega arith)
 edition-one B A e = absurd (omega arith)

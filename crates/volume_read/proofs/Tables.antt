@@ -49,8 +49,11 @@ module _ (back : Bool) (v : List ℕ) (n : ℕ) (h : headTested v (length v) ≡
 edition-back : (b : ℕ) → (b ≡ 65) ⊎ (b ≡ 66) → editionByte (editionOf b) ≡ b
 edition-back b = ⊎-elim (λ e. ap (λ (x : ℕ). editionByte (editionOf x)) e ∙ sym e) (λ e. ap (λ (x : ℕ). editionByte (editionOf x)) e ∙ sym e)
 
+pub edition-of-row : (back : Bool) (v : List ℕ) (n : ℕ) → Table back v n → (i : ℕ) → i < n → editionByte (editionOf (rowAt v i .edition)) ≡ rowAt v i .edition
+edition-of-row back v n t i h = edition-back _ (row-of back v n t i h .edition-is)
+
 pub sized : (back : Bool) (v : List ℕ) (n : ℕ) → n < 65536 → Table back v n → Sized v n
-sized back v n h t = record { few = h; size = size-of back v n t; editions = λ i g. edition-back _ (row-of back v n t i g .edition-is) }
+sized back v n h t = record { few = h; size = size-of back v n t; editions = edition-of-row back v n t }
 
 pub rising-rows : (v : List ℕ) (n : ℕ) → Table false v n → Rising v 6 n
 rising-rows v n t = rising false v n t

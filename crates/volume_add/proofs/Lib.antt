@@ -1,0 +1,3 @@
+pub mod Lengthening
+pub mod Numbers
+pub mod Told
