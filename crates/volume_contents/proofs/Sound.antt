@@ -17,7 +17,7 @@ use Rattle.volume_contents.specs.declared.Tested.the-variants.{Sound, Fl
 use Rattle.volume_contents.specs.Layout.{bodyPlace, sizeOf}
 use Rattle.volume_contents.specs.Contents.{unless, marked, problems, headTested, numbered, editioned, long, rises, inside, apart, close, itsPlace, ofA, rowTested, rowAt, numberBefore, testedAt, Table}
 
-sound-not : (w : Flaw) → Flawed w ≡ Sound → ⊥
+pub sound-not : (w : Flaw) → Flawed w ≡ Sound → ⊥
 sound-not w e = absurd (let z : _≡_ {A = ℕ} 0 1 = cc in omega arith)
 
 -- the first test passes, and so do those behind it

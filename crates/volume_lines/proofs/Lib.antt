@@ -1,2 +1,3 @@
 pub mod Breaks
 pub mod Surveying
+pub mod Unique

@@ -3,3 +3,4 @@ pub mod Rows
 pub mod Sizes
 pub mod Bodies
 pub mod Told
+pub mod Unique
