@@ -1,3 +1,4 @@
 pub mod Lengthening
 pub mod Numbers
 pub mod Told
+pub mod Unique

@@ -29,11 +29,13 @@ use Rattle.volume_lines.proofs.Breaks.{lines-one, stops-lines}
 use Rattle.volume_make.specs.Volumes.{Problem, volumeOf, numberedFrom, bound}
 use Rattle.volume_make.specs.Making.{Makes, unlined, many, refuses, room, written}
 use Rattle.volume_make.proofs.Sizes.{numbered-length, bound-length}
+use Rattle.volume_make.proofs.Unique.{makes-one}
 use Rattle.volume_read.specs.Problems.{problemsFrom, problemsOf}
 use Rattle.volume_read.specs.Reading.{Boards, Whole, Unmakes, refuses as unread, narrow, lined}
 use Rattle.volume_read.proofs.Boards.{edition-one}
 use Rattle.volume_read.proofs.Bytes.{Bytes, volume-of}
 use Rattle.volume_read.proofs.Made.{Right, AllRight, boardsOf, made-whole}
+use Rattle.volume_read.proofs.Unique.{unmakes-one}
 
 never : (r : Refusal) → refused r ≡ Accepted → ⊥
 never r e = let z : _≡_ {A = ℕ} 0 1 = cc in omega arith
@@ -121,3 +123,37 @@ pub whole-told : (v : List ℕ) (n : ℕ) (ps : List Position) → Whole true v 
 whole-told v n ps w =
     let a = told-from v n (w .table) 0 ps (omega (arith, w .count)) (w .boards) in
     (a .0, pass-noted ps unrefused 0 refl (a .1))
+
+-- lines into a volume x, and the volume back into y: the same lines
+pub there-and-back : (t o x v p y : List ℕ) (m : ℕ) (s : Written) → Makes t o (Count m) x → take m x ≡ v → Unmakes v p s y → length t ≤ length p
+    → (s ≡ Count (length t)) × (y ≡ t ++ drop (length t) p)
+there-and-back t o x v p y m s a c b h = go a
+  where
+    go : Makes t o (Count m) x → (s ≡ Count (length t)) × (y ≡ t ++ drop (length t) p)
+    go (unlined k l e d) = absurd (let z : _≡_ {A = ℕ} 0 1 = cc in omega arith)
+    go (many ps l k e d) = absurd (let z : _≡_ {A = ℕ} 0 1 = cc in omega arith)
+    go (refuses ps l k w q e d) = absurd (let z : _≡_ {A = ℕ} 0 1 = cc in omega arith)
+    go (room ps l k q j e d) = absurd (let z : _≡_ {A = ℕ} 0 1 = cc in omega arith)
+    go (written ps l k q j e d) =
+        let mm : m ≡ length (bound ps) = cc in
+        let vv : v ≡ bound ps = sym c ∙ (λ i. take (mm i) (d i)) ∙ take-at (bound ps) (drop (length (bound ps)) o) (length (bound ps)) refl in
+        let w : Whole true v (length ps) ps = subst (λ (u : List ℕ). Whole true u (length ps) ps) (sym vv) (bound-whole ps (omega arith) (l .told) q) in
+        let same : linesOf ps ≡ t = l .text in
+        let r = unmakes-one v p s (Count (length (linesOf ps))) y (linesOf ps ++ drop (length (linesOf ps)) p) b (lined (length ps) ps w (omega (arith, ap length same)) refl refl) in
+        (r .0 ∙ ap (λ (u : List ℕ). Count (length u)) same, r .1 ∙ ap (λ (u : List ℕ). u ++ drop (length u) p) same)
+
+-- a volume back into lines x, and the lines into a volume y: the same volume
+pub back-and-there : (v o x t p y : List ℕ) (m : ℕ) (s : Written) → Bytes v → Unmakes v o (Count m) x → take m x ≡ t → Makes t p s y → length v ≤ length p
+    → (s ≡ Count (length v)) × (y ≡ v ++ drop (length v) p)
+back-and-there v o x t p y m s bytes a c b h = go a
+  where
+    go : Unmakes v o (Count m) x → (s ≡ Count (length v)) × (y ≡ v ++ drop (length v) p)
+    go (unread why j e d) = absurd (let z : _≡_ {A = ℕ} 0 1 = cc in omega arith)
+    go (narrow n ps w j e d) = absurd (let z : _≡_ {A = ℕ} 0 1 = cc in omega arith)
+    go (lined n ps w j e d) =
+        let mm : m ≡ length (linesOf ps) = cc in
+        let same : t ≡ linesOf ps = sym c ∙ (λ i. take (mm i) (d i)) ∙ take-at (linesOf ps) (drop (length (linesOf ps)) o) (length (linesOf ps)) refl in
+        let told = whole-told v n ps w in
+        let vv : bound ps ≡ v = whole-bound v n ps bytes w in
+        let r = makes-one t p s (Count (length (bound ps))) y (bound ps ++ drop (length (bound ps)) p) b (written ps (record { told = told .0; text = sym same }) (omega (arith, bytes 4, bytes (4 + 1), w .table .count, w .count)) (told .1) (omega (arith, ap length vv)) refl refl) in
+        (r .0 ∙ ap (λ (u : List ℕ). Count (length u)) vv, r .1 ∙ ap (λ (u : List ℕ). u ++ drop (length u) p) vv)
