@@ -4,6 +4,7 @@
 #   say_usage TEXT      a usage text, and the end
 #   need_input          fails where standard input is closed
 #   ready               proves and builds the program where its sources are newer than it, and finds the kit that it is run with
+#   start [WORDS]       becomes it
 #   answer [WORDS]      runs it
 #   feed SED-SCRIPT     gives standard input, changed, to the script's own `answers`
 
@@ -106,9 +107,12 @@ find_kit() {
     [ -x "$emulator" ] || emulator=
 }
 
+# In the place of the shell that calls this.
+start() { exec ${emulator:+"$emulator"} "$kit/lib/ld-linux-x86-64.so.2" --library-path "$kit/lib" "$program" "$@"; }
+
 # What the program says of a failure is all that it can say: it has no exit status of its own. One above 128 is a signal's.
 answer() {
-    { said=$(${emulator:+"$emulator"} "$kit/lib/ld-linux-x86-64.so.2" --library-path "$kit/lib" "$program" "$@" 2>&1 >&3); } 3>&1
+    { said=$(start "$@" 2>&1 >&3); } 3>&1
     status=$?
     [ -z "$said" ] && [ "$status" -eq 0 ] && return
     [ -z "$said" ] || printf '%s\n' "$said" >&2
