@@ -2,3 +2,4 @@ pub mod Lengthening
 pub mod Numbers
 pub mod Told
 pub mod Unique
+pub mod Held

@@ -21,7 +21,7 @@ pub sound-not : (w : Flaw) → Flawed w ≡ Sound → ⊥
 sound-not w e = absurd (let z : _≡_ {A = ℕ} 0 1 = cc in omega arith)
 
 -- the first test passes, and so do those behind it
-passes : (b : Bool) (w : Flaw) (t : Tested) → unless b w t ≡ Sound → (b ≡ true) × (t ≡ Sound)
+pub passes : (b : Bool) (w : Flaw) (t : Tested) → unless b w t ≡ Sound → (b ≡ true) × (t ≡ Sound)
 passes true w t e = (refl, e)
 passes false w t e = absurd (sound-not w e)
 

@@ -1,3 +1,4 @@
 pub mod Breaks
 pub mod Surveying
+pub mod Pieces
 pub mod Unique

@@ -19,6 +19,7 @@ use Rattle.volume_contents.specs.Layout.{editionByte}
 use Rattle.volume_contents.specs.Contents.{rowAt}
 use Rattle.volume_contents.specs.inner.Walks.{editionOf}
 use Rattle.volume_lines.specs.Register.{linesOf}
+use Rattle.volume_lines.proofs.Pieces.{lines-append}
 use Rattle.volume_read.specs.Reading.{bodyAt, HasBoard, Passes, Fails, Boards}
 use Rattle.volume_read.specs.inner.Scanning.{Sized, AnswersAt, AllGood, FirstBad}
 
@@ -75,13 +76,7 @@ boards-one v n i (p ∷ ps) (q ∷ qs) a b e =
     let y : ps ≡ qs = boards-one v n (suc i) ps qs (a .1) (b .1) (omega arith) in
     cc
 
--- the lines of some boards, and of more
-pub lines-append : (ps qs : List Position) → linesOf (ps ++ qs) ≡ linesOf ps ++ linesOf qs
-unfolding linesOf
-lines-append [] qs = refl
-lines-append (p ∷ ps) qs =
-    ap (λ (z : List ℕ). printed p ++ (10 ∷ z)) (lines-append ps qs) ∙ sym (append-assoc (printed p) (10 ∷ linesOf ps) (linesOf qs))
-
+-- the lines of one board more
 pub line-length : (p : Position) → length (linesOf (p ∷ [])) ≡ length (printed p) + 1
 unfolding linesOf
 line-length p = length-append (printed p) (10 ∷ [])

@@ -12,10 +12,11 @@ use Rattle.men_field.specs.inner.Lines.{Holds}
 use Rattle.position_text.specs.declared.Raw.{Raw}
 use Rattle.position_text.specs.Form.{printed}
 use Rattle.volume_lines.specs.Register.{linesOf}
+use Rattle.volume_lines.proofs.Pieces.{lines-append}
 use Rattle.volume_make.proofs.Filling.{Filled, filled-length, filled-line, filled-none}
 use Rattle.volume_read.specs.Reading.{Boards}
 use Rattle.volume_read.specs.inner.Scanning.{Sized, AnswersAt, Fitted, LinesIn}
-use Rattle.volume_read.proofs.Boards.{read-as, boards-one, lines-append, snoc-length}
+use Rattle.volume_read.proofs.Boards.{read-as, boards-one, snoc-length}
 
 -- the lines of i boards are written, up to `to`; those of `todo` are to come
 pub record Lining (v o : List ℕ) (n i to : ℕ) (x : List ℕ) : Type 0 where

@@ -1,11 +1,9 @@
+-- `volume::show::parse` meets its contract.
 use Prim.Native.Nat.{_-_, _≤_}
 use lib.ListN.{length}
 use borrow.Author.Needs.{needs}
 use Rattle.volume.proofs.show.parse.Statement.{statement}
 use Rattle.volume.proofs.show.parse.Tie as tie
-use Rattle.volume.proofs.show.parse.Reads as reads
-use Rattle.volume.proofs.show.parse.Lts as lts
-use Rattle.volume.proofs.file.least.Reads as least-reads
 
 abbrev Inv-loop : tie.InvT-loop
 Inv-loop name n₀ i₀ n i = (i ≤ length name) × (n ≤ 65536)
@@ -13,55 +11,42 @@ Inv-loop name n₀ i₀ n i = (i ≤ length name) × (n ≤ 65536)
 abbrev μ-loop : tie.MeasureT-loop
 μ-loop name n₀ i₀ n i = length name - i
 
--- src/show.rt:41:5
 loop-holds : tie.Need-loop-holds Inv-loop μ-loop
 loop-holds c = search needs
 
--- src/show.rt:42:17
 shared-slice-read-b : tie.Need-shared-slice-read-b Inv-loop μ-loop
 shared-slice-read-b c = search needs
 
--- src/show.rt:44:13
 returns : tie.Need-returns Inv-loop μ-loop
 returns c = search needs
 
--- src/show.rt:47:13
 returns-2 : tie.Need-returns-2 Inv-loop μ-loop
 returns-2 c = search needs
 
--- src/show.rt:49:25
 mul-least : tie.Need-mul-least Inv-loop μ-loop
 mul-least c = search needs
 
--- src/show.rt:49:34
 cast-least : tie.Need-cast-least Inv-loop μ-loop
 cast-least c = search needs
 
--- src/show.rt:49:25
 add-least : tie.Need-add-least Inv-loop μ-loop
 add-least c = search needs
 
--- src/show.rt:49:9
 least-requires : tie.Need-least-requires Inv-loop μ-loop
 least-requires c κs = search needs
 
--- src/show.rt:50:9
 add-i : tie.Need-add-i Inv-loop μ-loop
 add-i c = search needs
 
--- src/show.rt:41:5
 loop-less : tie.Need-loop-less Inv-loop μ-loop
 loop-less c = search needs
 
--- src/show.rt:41:5
 loop-again : tie.Need-loop-again Inv-loop μ-loop
 loop-again c = search needs
 
--- src/show.rt:53:9
 returns-3 : tie.Need-returns-3 Inv-loop μ-loop
 returns-3 c = search needs
 
--- src/show.rt:38:1
 returns-4 : tie.Need-returns-4 Inv-loop μ-loop
 returns-4 c = search needs
 
