@@ -1,6 +1,6 @@
 -- The longer volume holds the boards that there were, and the new one.
-use mathlib.Core.Path.{_≡_, refl, sym, _∙_, ap, subst}
-use mathlib.Core.Bool.{Bool, true, false, false≢true}
+use mathlib.Core.Path.{_≡_, refl, _∙_, ap, subst}
+use mathlib.Core.Bool.{true, false, false≢true}
 use mathlib.Core.List.{List, [], _∷_, _++_}
 use Prim.Native.Nat.{ℕ, zero, suc, _+_, _*_, _≤_, _<_}
 use native.Mathlib.Omega.{arith}
@@ -16,13 +16,13 @@ use Rattle.accept.specs.Verdicts.{judgedOf}
 use Rattle.position_text.specs.Form.{StateFits}
 use Rattle.volume_contents.specs.declared.Flaw.the-variants.{Number, Order}
 use Rattle.volume_contents.specs.declared.Tested.the-variants.{Sound}
-use Rattle.volume_contents.specs.Contents.{rowAt, numberBefore}
+use Rattle.volume_contents.specs.Contents.{numberBefore}
 use Rattle.volume_contents.proofs.Sound.{passes, row-of}
 use Rattle.volume_make.specs.Volumes.{Problem}
 use Rattle.volume_read.specs.Problems.{problemsFrom, problemsOf}
 use Rattle.volume_read.specs.Reading.{Boards, Whole}
 use Rattle.volume_read.proofs.Bytes.{Bytes, problems-length}
-use Rattle.volume_read.proofs.Made.{Right, AllRight, boardsOf, made-whole}
+use Rattle.volume_read.proofs.Made.{AllRight, boardsOf, made-whole}
 use Rattle.volume_add.specs.Adding.{numberTested, with}
 
 -- a number that passes

@@ -1,23 +1,22 @@
 -- The parts of the longer volume are the volume of its problems.
-use mathlib.Core.Path.{_≡_, refl, sym, _∙_, ap, ap₂}
+use mathlib.Core.Path.{_≡_, refl, sym, _∙_, ap}
 use mathlib.Core.Bool.{false}
 use mathlib.Core.List.{List, [], _∷_, _++_, append-assoc, append-nil}
 use Prim.Native.Nat.{ℕ, suc, _+_, _*_, _≤_}
 use native.Mathlib.Omega.{arith}
 use lib.ListN.{length, take, drop, length-append, length-drop}
 use lib.Seq.{take-all, length-take-le, paste}
-use Rattle.laws.specs.declared.Edition.{Edition}
 use Rattle.laws.specs.declared.Position.{Position}
 use Rattle.men_field.specs.declared.Line.{Line}
 use Rattle.men_field.specs.inner.Lines.{Holds}
 use Rattle.volume_body.specs.Layout.{bodied}
-use Rattle.volume_contents.specs.Layout.{headOf, rowOf, bodyPlace, sizeOf, editionByte}
+use Rattle.volume_contents.specs.Layout.{headOf, rowOf, bodyPlace, sizeOf}
 use Rattle.volume_contents.specs.Contents.{rowAt}
 use Rattle.volume_contents.specs.inner.Walks.{editionOf}
 use Rattle.volume_contents.proofs.Sound.{size-of}
 use Rattle.volume_make.specs.Volumes.{Problem, rowsOf, bodiesOf, volumeOf}
 use Rattle.volume_make.specs.inner.Filling.{joined}
-use Rattle.volume_make.proofs.Filling.{Filled, filled-more, filled-line, filled-none, joined-length}
+use Rattle.volume_make.proofs.Filling.{filled-more, filled-line, filled-none, joined-length}
 use Rattle.volume_make.proofs.Sizes.{bodied-length, joined-front, volume-length}
 use Rattle.volume_read.specs.Problems.{problemsFrom, problemsOf}
 use Rattle.volume_read.specs.Reading.{Boards, Whole}

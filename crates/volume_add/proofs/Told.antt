@@ -1,10 +1,10 @@
 -- What is answered of a volume whose table and boards have passed.
-use mathlib.Core.Path.{_≡_, sym, _∙_, ap}
+use mathlib.Core.Path.{sym, _∙_, ap}
 use mathlib.Core.Bool.{false}
 use mathlib.Core.List.{List, _++_}
-use Prim.Native.Nat.{ℕ, _+_, _*_}
+use Prim.Native.Nat.{ℕ, _+_}
 use native.Mathlib.Omega.{arith}
-use lib.ListN.{length, drop}
+use lib.ListN.{drop}
 use Rattle.laws.specs.declared.Position.{Position}
 use Rattle.volume_contents.specs.declared.Why.the-variants.{Room}
 use Rattle.volume_contents.specs.declared.Written.{Written}

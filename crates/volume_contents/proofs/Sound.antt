@@ -1,11 +1,11 @@
 -- What a sound head, a sound row and a sound table say.
 use mathlib.Core.Path.{_≡_, refl, sym, _∙_, ap, subst}
-use mathlib.Core.Bool.{Bool, true, false, cond, not}
+use mathlib.Core.Bool.{Bool, true, false}
 use mathlib.Core.List.{List}
 use mathlib.Core.Logic.{⊎-elim, _⊎_, inl, inr}
-use Prim.Native.Nat.{ℕ, zero, suc, _+_, _*_, _≤_, _<_}
+use Prim.Native.Nat.{ℕ, zero, suc, _+_, _≤_, _<_}
 use native.Mathlib.Omega.{arith}
-use lib.Dec.{eqb, leb, ltb}
+use lib.Dec.{eqb}
 use lib.ListN.{length, getD}
 use borrow.Author.Tests.{eqb-true, leb-true, ltb-true}
 use Rattle.squares.proofs.Testing.{order, left, right, either, implied}
@@ -15,7 +15,7 @@ use Rattle.volume_contents.specs.declared.Flaw.the-variants.{Mark, Versi
 use Rattle.volume_contents.specs.declared.Tested.{Tested}
 use Rattle.volume_contents.specs.declared.Tested.the-variants.{Sound, Flawed}
 use Rattle.volume_contents.specs.Layout.{bodyPlace, sizeOf}
-use Rattle.volume_contents.specs.Contents.{unless, marked, problems, headTested, numbered, editioned, long, rises, inside, apart, close, itsPlace, ofA, rowTested, rowAt, numberBefore, testedAt, Table}
+use Rattle.volume_contents.specs.Contents.{unless, marked, problems, headTested, numbered, editioned, long, rises, inside, apart, close, itsPlace, ofA, rowTested, rowAt, numberBefore, Table}
 
 pub sound-not : (w : Flaw) → Flawed w ≡ Sound → ⊥
 sound-not w e = absurd (let z : _≡_ {A = ℕ} 0 1 = cc in omega arith)

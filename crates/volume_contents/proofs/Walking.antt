@@ -3,14 +3,12 @@ use mathlib.Core.Path.{_≡_, refl, sym, _∙_, ap, subst}
 use mathlib.Core.Bool.{Bool}
 use mathlib.Core.List.{List}
 use mathlib.Core.Logic.{⊎-elim}
-use Prim.Native.Nat.{ℕ, suc, _+_, _*_, _/_, _≤_, _<_}
+use Prim.Native.Nat.{ℕ, _+_, _*_, _≤_, _<_}
 use native.Mathlib.Omega.{arith}
 use native.Mathlib.Numerals.{add-one}
 use Rattle.squares.proofs.Testing.{order as either}
 use Rattle.volume_contents.specs.declared.Flaw.{Flaw}
-use Rattle.volume_contents.specs.declared.Tested.{Tested}
 use Rattle.volume_contents.specs.declared.Tested.the-variants.{Sound, Flawed}
-use Rattle.volume_contents.specs.declared.Walked.{Walked}
 use Rattle.volume_contents.specs.Layout.{entryAt}
 use Rattle.volume_contents.specs.Contents.{rowTested}
 use Rattle.volume_contents.specs.inner.Walks.{numberIn, lastIn, testedIn, WalksTo, Rising, Bound}

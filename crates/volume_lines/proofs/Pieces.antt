@@ -1,5 +1,5 @@
 -- A register that is read in pieces, each from behind the last line of the one before, is looked at as one.
-use mathlib.Core.Path.{_≡_, refl, sym, _∙_, ap, subst}
+use mathlib.Core.Path.{_≡_, refl, sym, _∙_, ap}
 use mathlib.Core.Bool.{Bool, true, false}
 use mathlib.Core.List.{List, [], _∷_, _++_, append-assoc}
 use Prim.Native.Nat.{ℕ, _+_, _-_, _≤_, _<_}
@@ -11,7 +11,7 @@ use Rattle.accept.specs.Verdicts.{judgedOf}
 use Rattle.position_text.specs.Form.{printed}
 use Rattle.volume_lines.specs.declared.Named.{Named}
 use Rattle.volume_lines.specs.declared.Survey.{Survey}
-use Rattle.volume_lines.specs.Register.{AllTold, linesOf, Starts, noteOf, notedOf}
+use Rattle.volume_lines.specs.Register.{AllTold, linesOf, noteOf, notedOf}
 use Rattle.volume_lines.specs.inner.Surveys.{EndsAt, Surveyed}
 
 all-append : (ps qs : List Position) → AllTold ps → AllTold qs → AllTold (ps ++ qs)

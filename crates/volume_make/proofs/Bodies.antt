@@ -20,7 +20,7 @@ use Rattle.volume_lines.proofs.Surveying.{Next, next}
 use Rattle.volume_make.specs.Volumes.{rowsOf, bodiesOf, volumeOf, numberedFrom, bound}
 use Rattle.volume_make.specs.inner.Filling.{joined, plainRow, Sized, BodiesIn, Counted, VolumeIn}
 use Rattle.volume_make.proofs.Filling.{Filled, filled-more, filled-line, filled-none, filled-front, joined-length}
-use Rattle.volume_make.proofs.Sizes.{bodied-length, numbered-length, rows-plain, bound-length}
+use Rattle.volume_make.proofs.Sizes.{bodied-length, numbered-length, rows-plain}
 
 -- the same bodies whatever the numbers
 unfoldable pub bodiesFor : List Position → List ℕ

@@ -13,11 +13,11 @@ use Rattle.refusal.specs.declared.Refusal.{Refusal}
 use Rattle.refusal.specs.declared.Verdict.the-variants.{Accepted, Refused as refused}
 use Rattle.position_text.specs.Form.{printed}
 use Rattle.volume_contents.specs.declared.Flaw.the-variants.{Many}
-use Rattle.volume_contents.specs.declared.Why.the-variants.{Line, Contents, Board, Room}
+use Rattle.volume_contents.specs.declared.Why.the-variants.{Contents, Board, Room}
 use Rattle.volume_contents.specs.declared.Written.the-variants.{Count, Refused}
 use Rattle.volume_lines.specs.declared.Named.{Named}
 use Rattle.volume_lines.specs.declared.Survey.{Survey}
-use Rattle.volume_lines.specs.Register.{linesOf, Lines, Starts, Stops, unrefused, firstRefused}
+use Rattle.volume_lines.specs.Register.{linesOf, Lines, Starts, Stops, unrefused}
 use Rattle.volume_lines.specs.inner.Surveys.{EndsAt, Surveyed}
 use Rattle.volume_lines.proofs.Breaks.{Free, free-of, free-no}
 use Rattle.volume_make.specs.Volumes.{bound}

@@ -1,5 +1,4 @@
 // A volume made: of old lines, and of a volume and one problem more. What a volume is stands in specs/Volumes.
-use laws::Position;
 use refusal::Verdict;
 use volume_contents::Flaw;
 use volume_contents::Why;

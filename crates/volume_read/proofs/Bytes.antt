@@ -1,22 +1,20 @@
 -- A sound volume whose rows have boards is, byte by byte, the volume of its problems.
-use mathlib.Core.Path.{_≡_, refl, sym, _∙_, ap, ap₂, subst}
+use mathlib.Core.Path.{_≡_, refl, sym, _∙_, ap, ap₂}
 use mathlib.Core.Bool.{Bool}
-use mathlib.Core.List.{List, [], _∷_, _++_, append-assoc}
-use mathlib.Core.Logic.{⊎-elim, _⊎_}
+use mathlib.Core.List.{List, [], _∷_, _++_}
 use Prim.Native.Nat.{ℕ, zero, suc, _+_, _*_, _/_, _%_, _≤_, _<_}
 use native.Mathlib.Omega.{arith}
 use native.Mathlib.Numerals.{add-one}
 use lib.ListN.{length, getD, take, drop, length-drop, take-append-drop}
-use lib.Seq.{drop-cons, drop-drop, take-add, take-all, getD-drop}
+use lib.Seq.{drop-cons, drop-drop, take-add, take-all}
 use Rattle.laws.specs.declared.Edition.{Edition}
 use Rattle.laws.specs.declared.Position.{Position}
-use Rattle.volume_body.specs.Layout.{bodied}
-use Rattle.volume_contents.specs.Layout.{headOf, editionByte, rowOf, bodyPlace, sizeOf, twoAt}
-use Rattle.volume_contents.specs.Contents.{problems, rowAt, numberBefore, Table}
-use Rattle.volume_contents.proofs.Sound.{Row, row-of, head-of, size-of}
-use Rattle.volume_make.specs.Volumes.{Problem, rowsOf, bodiesOf, volumeOf}
+use Rattle.volume_contents.specs.Layout.{headOf, editionByte, rowOf, bodyPlace}
+use Rattle.volume_contents.specs.Contents.{problems, rowAt, Table}
+use Rattle.volume_contents.proofs.Sound.{row-of, head-of, size-of}
+use Rattle.volume_make.specs.Volumes.{rowsOf, bodiesOf, volumeOf}
 use Rattle.volume_read.specs.Problems.{problemsFrom, problemsOf}
-use Rattle.volume_read.specs.Reading.{HasBoard, Boards, Whole}
+use Rattle.volume_read.specs.Reading.{Boards, Whole}
 
 -- what a slice of bytes has
 abbrev pub Bytes : List ℕ → Type 0

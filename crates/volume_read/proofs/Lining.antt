@@ -1,7 +1,7 @@
 -- The lines of a volume's boards, written one behind the other.
 use mathlib.Core.Path.{_≡_, refl, sym, _∙_, ap, subst}
 use mathlib.Core.List.{List, [], _∷_, _++_, append-assoc, append-nil}
-use Prim.Native.Nat.{ℕ, suc, _+_, _≤_, _<_}
+use Prim.Native.Nat.{ℕ, _+_, _≤_, _<_}
 use native.Mathlib.Omega.{arith}
 use native.Mathlib.Numerals.{add-one}
 use lib.ListN.{length, drop, length-append}
@@ -13,7 +13,7 @@ use Rattle.position_text.specs.declared.Raw.{Raw}
 use Rattle.position_text.specs.Form.{printed}
 use Rattle.volume_lines.specs.Register.{linesOf}
 use Rattle.volume_lines.proofs.Pieces.{lines-append}
-use Rattle.volume_make.proofs.Filling.{Filled, filled-length, filled-line, filled-none}
+use Rattle.volume_make.proofs.Filling.{Filled, filled-line, filled-none}
 use Rattle.volume_read.specs.Reading.{Boards}
 use Rattle.volume_read.specs.inner.Scanning.{Sized, AnswersAt, Fitted, LinesIn}
 use Rattle.volume_read.proofs.Boards.{read-as, boards-one, snoc-length}

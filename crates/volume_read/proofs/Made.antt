@@ -1,15 +1,15 @@
 -- A volume that was made of problems passes all tests, and has these problems.
-use mathlib.Core.Path.{_≡_, refl, sym, _∙_, ap, ap₂, subst}
+use mathlib.Core.Path.{_≡_, refl, sym, _∙_, ap, subst}
 use mathlib.Core.Bool.{Bool, true, false, not}
-use mathlib.Core.List.{List, [], _∷_, _++_, append-assoc, append-nil}
+use mathlib.Core.List.{List, [], _∷_, _++_, append-assoc}
 use Prim.Native.Nat.{ℕ, zero, suc, _+_, _*_, _/_, _%_, _≤_, _<_}
 use native.Mathlib.Omega.{arith}
-use lib.Dec.{eqb, leb, ltb}
-use lib.ListN.{length, getD, take, drop, length-append}
+use lib.Dec.{eqb}
+use lib.ListN.{length, getD, take, drop}
 use lib.Seq.{drop-drop, drop-at, take-at, getD-drop}
 use borrow.Author.Tests.{eq-eqb, le-leb, lt-ltb}
-use Rattle.squares.specs.Tests.{_and_, _or_}
-use Rattle.squares.proofs.Testing.{both, or-left, or-right}
+use Rattle.squares.specs.Tests.{_or_}
+use Rattle.squares.proofs.Testing.{both}
 use Rattle.laws.specs.declared.Edition.{Edition}
 use Rattle.laws.specs.declared.Edition.the-variants.{A, B}
 use Rattle.laws.specs.declared.Position.{Position}
@@ -22,11 +22,11 @@ use Rattle.volume_contents.specs.declared.Flaw.the-variants.{Length}
 use Rattle.volume_contents.specs.declared.Tested.{Tested}
 use Rattle.volume_contents.specs.declared.Tested.the-variants.{Sound}
 use Rattle.volume_contents.specs.Layout.{headOf, editionByte, rowOf, bodyPlace, sizeOf, twoAt, entryAt}
-use Rattle.volume_contents.specs.Contents.{unless, marked, problems, headTested, numbered, editioned, long, rises, inside, apart, close, itsPlace, ofA, rowTested, rowAt, numberBefore, testedAt, Table}
+use Rattle.volume_contents.specs.Contents.{unless, problems, headTested, rowTested, rowAt, numberBefore, testedAt}
 use Rattle.volume_make.specs.Volumes.{Problem, rowsOf, bodiesOf, volumeOf}
-use Rattle.volume_make.proofs.Sizes.{bodied-length, rows-length, bodies-length, volume-length}
+use Rattle.volume_make.proofs.Sizes.{bodied-length, rows-length, volume-length}
 use Rattle.volume_read.specs.Problems.{problemsFrom}
-use Rattle.volume_read.specs.Reading.{bodyAt, HasBoard, Boards, Whole}
+use Rattle.volume_read.specs.Reading.{bodyAt, Boards, Whole}
 
 -- the problem in the row i, behind a row with the number `last`; `back` is whether it is one of old lines
 pub record Right (back : Bool) (i last : ℕ) (x : Problem) : Type 0 where

@@ -5,36 +5,31 @@ use mathlib.Core.Bool.{true}
 use mathlib.Core.List.{List, [], _∷_, _++_}
 use Prim.Native.Nat.{ℕ, suc, _+_, _≤_, _<_}
 use native.Mathlib.Omega.{arith}
-use lib.ListN.{length, take, drop, length-append}
+use lib.ListN.{length, take, drop}
 use lib.Seq.{take-at}
 use Rattle.laws.specs.declared.Edition.the-variants.{A}
 use Rattle.laws.specs.declared.Position.{Position}
 use Rattle.laws.specs.declared.Terms.{Terms}
-use Rattle.laws.specs.declared.Edition.{Edition}
 use Rattle.laws.specs.Positions.{termsOf}
 use Rattle.refusal.specs.declared.Refusal.{Refusal}
 use Rattle.refusal.specs.declared.Verdict.{Verdict}
 use Rattle.refusal.specs.declared.Verdict.the-variants.{Accepted, Refused as refused}
 use Rattle.accept.specs.Verdicts.{judgedOf}
-use Rattle.position_text.specs.Form.{printed, Says}
-use Rattle.volume_body.specs.Layout.{bodied, Embodies}
 use Rattle.volume_contents.specs.declared.Written.{Written}
 use Rattle.volume_contents.specs.declared.Written.the-variants.{Count}
-use Rattle.volume_contents.specs.Layout.{editionByte}
 use Rattle.volume_contents.specs.Contents.{rowAt, Table}
 use Rattle.volume_contents.proofs.Sound.{plain-row}
 use Rattle.volume_lines.specs.declared.Named.{Named}
-use Rattle.volume_lines.specs.Register.{Told, AllTold, linesOf, Lines, noteBy, noteOf, notedOf, unrefused, firstRefused}
-use Rattle.volume_lines.proofs.Breaks.{lines-one, stops-lines}
-use Rattle.volume_make.specs.Volumes.{Problem, volumeOf, numberedFrom, bound}
+use Rattle.volume_lines.specs.Register.{Told, AllTold, linesOf, noteBy, noteOf, notedOf, unrefused, firstRefused}
+use Rattle.volume_make.specs.Volumes.{volumeOf, numberedFrom, bound}
 use Rattle.volume_make.specs.Making.{Makes, unlined, many, refuses, room, written}
-use Rattle.volume_make.proofs.Sizes.{numbered-length, bound-length}
+use Rattle.volume_make.proofs.Sizes.{numbered-length}
 use Rattle.volume_make.proofs.Unique.{makes-one}
-use Rattle.volume_read.specs.Problems.{problemsFrom, problemsOf}
+use Rattle.volume_read.specs.Problems.{problemsFrom}
 use Rattle.volume_read.specs.Reading.{Boards, Whole, Unmakes, refuses as unread, narrow, lined}
 use Rattle.volume_read.proofs.Boards.{edition-one}
 use Rattle.volume_read.proofs.Bytes.{Bytes, volume-of}
-use Rattle.volume_read.proofs.Made.{Right, AllRight, boardsOf, made-whole}
+use Rattle.volume_read.proofs.Made.{AllRight, boardsOf, made-whole}
 use Rattle.volume_read.proofs.Unique.{unmakes-one}
 
 never : (r : Refusal) → refused r ≡ Accepted → ⊥

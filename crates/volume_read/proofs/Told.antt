@@ -1,6 +1,6 @@
 -- What the entries answer, from what was found.
 use mathlib.Core.Path.{_≡_, refl, ap, subst}
-use mathlib.Core.Bool.{Bool, true, false}
+use mathlib.Core.Bool.{Bool, true}
 use mathlib.Core.List.{List}
 use Prim.Native.Nat.{ℕ, _≤_, _<_}
 use native.Mathlib.Omega.{arith}
@@ -10,13 +10,13 @@ use Rattle.volume_contents.specs.declared.Flaw.{Flaw}
 use Rattle.volume_contents.specs.declared.Why.{Why}
 use Rattle.volume_contents.specs.declared.Why.the-variants.{Contents, Room}
 use Rattle.volume_contents.specs.declared.Written.the-variants.{Count, Refused as Unwritten}
-use Rattle.volume_contents.specs.Contents.{Table as Sound, Spoilt}
+use Rattle.volume_contents.specs.Contents.{Table as Sound}
 use Rattle.volume_read.specs.declared.Table.{Table}
 use Rattle.volume_read.specs.declared.Table.the-variants.{Rows, Bad}
 use Rattle.volume_read.specs.declared.Scan.{Scan}
 use Rattle.volume_read.specs.declared.Scan.the-variants.{Good, Refused}
-use Rattle.volume_read.specs.Reading.{Judged, by-table, by-row, Whole, Unmakes, refuses, narrow, lined}
-use Rattle.volume_read.specs.inner.Scanning.{TableOf, Sized, AllGood, FirstBad, Scanned, Fitted, LinesIn}
+use Rattle.volume_read.specs.Reading.{Judged, by-table, by-row, Whole, Unmakes, narrow, lined}
+use Rattle.volume_read.specs.inner.Scanning.{TableOf, Sized, AllGood, Scanned, Fitted, LinesIn}
 use Rattle.volume_read.proofs.Tables.{sized}
 
 module _ (back : Bool) (v : List ℕ) (t : Table) (a : TableOf back v t) where

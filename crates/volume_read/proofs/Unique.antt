@@ -12,7 +12,7 @@ use Rattle.squares.proofs.Testing.{order}
 use Rattle.laws.specs.declared.Position.{Position}
 use Rattle.refusal.specs.declared.Refusal.{Refusal}
 use Rattle.refusal.specs.declared.Verdict.{Verdict}
-use Rattle.refusal.specs.declared.Verdict.the-variants.{Accepted, Refused as refused}
+use Rattle.refusal.specs.declared.Verdict.the-variants.{Refused as refused}
 use Rattle.refusal.proofs.Saying.{never}
 use Rattle.accept.specs.Verdicts.{judgedOf}
 use Rattle.position.specs.Answers.{noPosition}

@@ -1,7 +1,6 @@
 use mathlib.Core.Path.{refl, subst}
 use native.Mathlib.Omega.{arith}
 use denote.Ref.{now}
-use lib.ListN.{length}
 use Rattle.volume_lines.specs.declared.Named.{Named}
 use Rattle.volume_lines.specs.inner.Surveys.{Surveyed}
 use Rattle.volume_make.specs.Making.{unlined}

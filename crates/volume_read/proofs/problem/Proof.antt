@@ -1,4 +1,4 @@
-use mathlib.Core.Path.{_≡_, refl, subst}
+use mathlib.Core.Path.{subst}
 use denote.Ref.{now}
 use mathlib.Core.Bool.{false}
 use Rattle.volume_contents.specs.declared.Why.the-variants.{Contents}

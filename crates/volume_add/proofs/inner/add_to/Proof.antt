@@ -1,7 +1,5 @@
-use mathlib.Core.Path.{_≡_, refl, sym, _∙_, ap}
+use mathlib.Core.Path.{refl, sym, _∙_, ap}
 use Prim.Native.Nat.{ℕ}
-use denote.Ref.{now}
-use Rattle.volume_contents.specs.Contents.{numberBefore}
 use Rattle.volume_add.specs.Adding.{numberTested}
 use Rattle.volume_add.specs.inner.Longer.{misnumbered, unjudged, narrow, added}
 use borrow.Author.Needs.{needs}

@@ -1,5 +1,5 @@
-use mathlib.Core.Path.{_≡_, sym, _∙_, ap, subst}
-use Prim.Native.Nat.{ℕ, _-_, _+_, _*_, _<_, _≤_}
+use mathlib.Core.Path.{subst}
+use Prim.Native.Nat.{_-_, _<_, _≤_}
 use native.Mathlib.Omega.{arith}
 use Rattle.volume_contents.specs.declared.Entry.{Entry}
 use Rattle.volume_contents.proofs.Walking.{Between, find-none, find-low, find-high, find-done}

@@ -1,4 +1,4 @@
-use mathlib.Core.Path.{refl, ap, subst}
+use mathlib.Core.Path.{refl, subst}
 use mathlib.Core.List.{[], _∷_}
 use Prim.Native.Nat.{ℕ}
 use Rattle.men_field.specs.inner.Lines.{Added}

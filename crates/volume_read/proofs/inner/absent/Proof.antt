@@ -1,6 +1,3 @@
-use mathlib.Core.Path.{ap}
-use Rattle.laws.specs.declared.Position.{Position}
-use Rattle.volume_read.specs.declared.Found.{Found}
 use Rattle.volume_read.specs.declared.Sought.the-variants.{Absent}
 use borrow.Author.Needs.{needs}
 use Rattle.volume_read.proofs.inner.absent.Statement.{statement}

@@ -1,9 +1,7 @@
-use mathlib.Core.Path.{sym, _∙_, subst}
+use mathlib.Core.Path.{sym, _∙_}
 use native.Mathlib.Omega.{arith}
 use denote.Ref.{now}
-use Rattle.volume_contents.specs.declared.Tested.{Tested}
 use Rattle.volume_contents.specs.Contents.{head}
-use Rattle.volume_contents.specs.inner.Walks.{Ends}
 use Rattle.volume_read.proofs.Tables.{table-sound, table-spoilt, rows-few}
 use borrow.Author.Needs.{needs}
 use Rattle.volume_read.proofs.inner.contents.Statement.{statement}

@@ -1,4 +1,3 @@
-use borrow.Author.Needs.{needs}
 use Rattle.volume_contents.proofs.inner.tests.unless.Statement.{statement}
 use Rattle.volume_contents.proofs.inner.tests.unless.Tie as tie
 use Rattle.volume_contents.proofs.inner.tests.unless.Reads as reads
