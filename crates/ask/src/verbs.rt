@@ -9,8 +9,8 @@ pub(super) fn reply(line: &[u8], out: &mut [u8; 65536]) -> usize
     puts::inner::bytes(out, n, b"\n")
 }
 
-// A record and a solution may be of any length, so that the verbs by an edition and `solution` have the whole line, and the others its first
-// 512 bytes.
+// A record, a solution and a volume may be of any length, so that the verbs by an edition, `solution` and those of volumes have the whole line, and the
+// others its first 512 bytes.
 fn by_verb(line: &[u8], out: &mut [u8; 65536]) -> usize
     ensures { λ n. ⌜ Grows 0 n ⌝ }
 {
@@ -21,6 +21,10 @@ fn by_verb(line: &[u8], out: &mut [u8; 65536]) -> usize
     let solutions = solution_verb::inner::answer(line, out);
     if solutions > 0 {
         return solutions;
+    }
+    let volumes = volume_verb::inner::answer(line, out);
+    if volumes > 0 {
+        return volumes;
     }
     let n = line.len();
     if n < 512 {

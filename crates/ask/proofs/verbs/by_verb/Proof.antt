@@ -19,20 +19,26 @@ answer-requires-2 c κs = search needs
 returns-2 : tie.Need-returns-2
 returns-2 c = search needs
 
-by-short-requires : tie.Need-by-short-requires
-by-short-requires c κs = search needs
+answer-requires-3 : tie.Need-answer-requires-3
+answer-requires-3 c κs = search needs
 
 returns-3 : tie.Need-returns-3
 returns-3 c = search needs
 
+by-short-requires : tie.Need-by-short-requires
+by-short-requires c κs = search needs
+
+returns-4 : tie.Need-returns-4
+returns-4 c = search needs
+
 slice-aggregate-by-short : tie.Need-slice-aggregate-by-short
-slice-aggregate-by-short c = sym (length-take-le 512 (now (c .before .before .before .before .before .before .before .before .before .args .line)) (omega arith))
+slice-aggregate-by-short c = sym (length-take-le 512 (now (c .before .before .before .before .before .before .before .before .before .before .before .before .args .line)) (omega arith))
 
 by-short-requires-2 : tie.Need-by-short-requires-2
 by-short-requires-2 c κs = search needs
 
-returns-4 : tie.Need-returns-4
-returns-4 c = search needs
+returns-5 : tie.Need-returns-5
+returns-5 c = search needs
 
 pub by-verb-spec : {M : Type 1} → statement M
 by-verb-spec =
@@ -42,8 +48,10 @@ by-verb-spec =
     returns
     answer-requires-2
     returns-2
-    by-short-requires
+    answer-requires-3
     returns-3
+    by-short-requires
+    returns-4
     slice-aggregate-by-short
     by-short-requires-2
-    returns-4)
+    returns-5)
