@@ -1,6 +1,6 @@
 #!/usr/bin/env python3
 """Lines and volumes, from docs/VOLUME.md and document 02, item 4: each function takes and gives whole files as bytes. What texts are refused by, 14 and 1 to
-6 in their edition, `brute` says of all of them at once, by `judge`. `volumes.py --selfcheck` tries this file by volumes_checked.py.
+6 in their edition, `brute` says of all of them at once. `volumes.py --selfcheck` tries this file by volumes_checked.py.
 
 An answer is one of
     'written', the file        'counted', how many problems        'found', edition, text        'absent',
@@ -11,7 +11,7 @@ from scripts import load
 
 HERE = os.path.dirname(os.path.abspath(__file__))
 BUILT = HERE if os.path.exists(HERE + '/brute/brute') else os.path.dirname(HERE) + '/target/oracle'
-judge = load(BUILT, 'judge')
+lastmoves = load(BUILT, 'lastmoves')
 ROOM, TEXT, CONTENTS, BODY = 13, 14, 17, 18
 MOST = 65535
 HEAD, ROW, LENGTH = 6, 8, 34
@@ -106,7 +106,7 @@ def refusals(boards):
     known = {}
     for edition in (A, B):
         texts = list(dict.fromkeys(text for e, text in boards if e == edition))
-        known.update(zip([(edition, text) for text in texts], judge.accept(edition, texts)))
+        known.update(zip([(edition, text) for text in texts], map(int, lastmoves.run([lastmoves.BRUTE, 'accept', edition], texts))))
     return [known[board] for board in boards]
 
 

@@ -394,6 +394,51 @@ def lent(seed, n):
         yield Case(command, file, t.rng.choice([need, need, max(0, need - 1), need + 1, 0, need // 2]))
 
 
+# Questions to `ask`
+
+VERBS = {'make': b'bind', 'lines': b'unbind', 'check': b'contents', 'show': b'problem'}
+ROOMS = [b'-', b'-', b'16384', b'16385', b'65536', b'18446744073709551616']  # all of the slice
+ENDS = [b'0', b'F', b'g', b'0g', b'g0', b'-', b' ', b' 00', b'\r', b'\0']  # behind the last byte, and none themselves
+
+
+def question(rng, case):
+    """None where no verb asks it."""
+    if case.command not in VERBS:
+        return None
+    digits = case.file.hex().encode() or b'-'
+    digits = rng.choice([digits, digits, digits.upper(), digits.title()]) + (rng.choice(ENDS) if rng.random() < .05 and digits != b'-' else b'')
+    whole = [] if case.command == 'check' else [rng.choice(ROOMS)]
+    return VERBS[case.command] + b'\t' + b' '.join((whole if case.argument is None else [b'%d' % case.argument]) + [digits])
+
+
+def full(seed):
+    """Lines and volumes about where the 16,384 bytes end that are read, and that may be written."""
+    t = Texts(seed)
+    for n in (389, 390, 630, 631):
+        yield Case('make', joined([KINGS] * n), None)
+    for n in (389, 390):
+        for lines in ([KINGS] * n, [t.good() for _ in range(n)]):
+            file = old(lines).file()
+            yield from [Case('lines', file, None), Case('check', file, None), Case('show', file, n)]
+
+
+def questions(seed, n, every):
+    """n lent slices, a fourth as many registers and volumes, and with `every` each place damaged of two volumes, and the longest; by their verbs."""
+    rng = random.Random('%s/questions' % seed)
+    made = [*lent(seed, n), *cases(seed, n // 4), *([*systematic(seed), *full(seed)] if every else [])]
+    lines = [line for line in (question(rng, case) for case in made) if line]
+    return {verb.decode(): [line for line in lines if line.startswith(verb + b'\t')] for verb in VERBS.values()}
+
+
+def answered(line, answer):
+    """What is counted of an answer of `ask`: the verb, its word, a refusal's number, and the name of a failed test."""
+    word, *rest = answer.decode().split()
+    verb = line.split(b'\t')[0].decode()
+    if word != 'refused':
+        return verb + (' absent' if word == 'absent' else ' answered')
+    return ' '.join([verb, word, rest[0]] + rest[2:])
+
+
 def kind(said):
     """What is counted of the judge's answer: its word, a refusal's number, and the name of a failed test."""
     word, *rest = said
