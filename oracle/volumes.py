@@ -54,14 +54,18 @@ def make(file, room=None):
 
 
 @answered
-def bind(problems, room=None):
-    """Problems to volume, each a number up to 65,535, an edition and a text in form."""
-    before = 0
-    for place, (number, _, _) in enumerate(problems, 1):
-        if number == 0 or number <= before:
-            raise Refused(CONTENTS, place, 'number' if number == 0 else 'order')
-        before = number
-    return bound(problems, room)
+def add(volume, number, edition, text, room=None):
+    """A volume and one problem more to volume, of any text: 14 comes first."""
+    if refusals([(edition, text)]) == [TEXT]:
+        raise Refused(TEXT, 0, None)
+    rows = read_table(volume, back=False)
+    texts = read_bodies(volume, list(enumerate(rows, 1)))
+    held = [(row.number, row.edition, each) for row, each in zip(rows, texts)]
+    if not 1 <= number <= MOST:
+        raise Refused(CONTENTS, len(rows) + 1, 'number')
+    if held and number <= held[-1][0]:
+        raise Refused(CONTENTS, len(rows) + 1, 'order')
+    return bound(held + [(number, edition, text)], room)
 
 
 @answered

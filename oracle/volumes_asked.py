@@ -368,43 +368,43 @@ def longest(t):
     yield Case('lines', d.file(), None)
 
 
-def problems(t):
-    """To be bound: their numbers rise, but for some; their boards are accepted, but for some."""
-    rng, n = t.rng, t.rng.randrange(7)
-    found = [[number, edition, t.good(edition)] for number in rising(rng, n) for edition in [rng.choice([A, B])]]
-    for _ in range(rng.choice([0, 0, 1, 1, 2]) if n else 0):
-        i = rng.randrange(n)
-        if rng.random() < .5:
-            found[i][0] = rng.choice([0, found[i - 1][0], max(0, found[i - 1][0] - 1)])
-        else:
-            found[i][2] = t.bad(found[i][1]) if rng.random() < .6 else rng.choice(t.lonely)
-    return [tuple(each) for each in found]
+def more(t):
+    """A volume, most often a sound one, and one problem: its number most often above those of the volume, its board accepted, refused or no text."""
+    rng = t.rng
+    n = rng.randrange(5)
+    file = draft(t, n).file() if rng.random() < .8 else volume(t, n)
+    last = volumes.number_of(file[HEAD + 8 * n - 8:HEAD + 8 * n - 6]) if n else 0
+    edition = rng.choice([A, B])
+    number = rng.choice([last + 1] * 6 + [rng.randrange(last, MOST + 1), 0, last, max(0, last - 1), MOST, MOST + 1, last + MOST + 1])
+    text = t.good(edition) if rng.random() < .7 else rng.choice([t.bad(edition), rng.choice(t.lonely), b'8/8/8 w - -'])
+    return file, number, edition, text
 
 
 def lent(seed, n):
     """Of calls that are lent a slice: its room is what is needed, a byte less, or another."""
     t = Texts(seed)
-    makers = [('make', volumes.make, whole), ('make', volumes.make, bad_board), ('bind', volumes.bind, problems), ('bind', volumes.bind, problems),
-              ('lines', volumes.lines, lambda t: volumes.make(whole(t))[1]), ('lines', volumes.lines, lambda t: volume(t, t.rng.randrange(7)))]
+    makers = [('make', volumes.make, lambda t: [whole(t)]), ('make', volumes.make, lambda t: [bad_board(t)]), ('add', volumes.add, more),
+              ('add', volumes.add, more), ('lines', volumes.lines, lambda t: [volumes.make(whole(t))[1]]),
+              ('lines', volumes.lines, lambda t: [volume(t, t.rng.randrange(7))])]
     for _ in range(n):
         command, answer, made = t.rng.choice(makers)
-        file = made(t)
-        said = answer(file)
+        given = made(t)
+        said = answer(*given)
         need = len(said[1]) if said[0] == 'written' else 0
-        yield Case(command, file, t.rng.choice([need, need, max(0, need - 1), need + 1, 0, need // 2]))
+        yield Case(command, given if command == 'add' else given[0], t.rng.choice([need, need, max(0, need - 1), need + 1, 0, need // 2]))
 
 
 # Questions to `ask`
 
-VERBS = {'make': b'bind', 'lines': b'unbind', 'check': b'contents', 'show': b'problem'}
+VERBS = {'make': b'bind', 'lines': b'unbind', 'check': b'contents', 'show': b'problem', 'add': b'add'}
 ROOMS = [b'-', b'-', b'16384', b'16385', b'65536', b'18446744073709551616']  # all of the slice
 ENDS = [b'0', b'F', b'g', b'0g', b'g0', b'-', b' ', b' 00', b'\r', b'\0']  # behind the last byte, and none themselves
 
 
 def question(rng, case):
-    """None where no verb asks it."""
-    if case.command not in VERBS:
-        return None
+    if case.command == 'add':
+        file, number, edition, text = case.file
+        return b'add\t%d %d %s %s %s' % (case.argument, number, edition, file.hex().encode() or b'-', text)
     digits = case.file.hex().encode() or b'-'
     digits = rng.choice([digits, digits, digits.upper(), digits.title()]) + (rng.choice(ENDS) if rng.random() < .05 and digits != b'-' else b'')
     whole = [] if case.command == 'check' else [rng.choice(ROOMS)]
@@ -426,7 +426,7 @@ def questions(seed, n, every):
     """n lent slices, a fourth as many registers and volumes, and with `every` each place damaged of two volumes, and the longest; by their verbs."""
     rng = random.Random('%s/questions' % seed)
     made = [*lent(seed, n), *cases(seed, n // 4), *([*systematic(seed), *full(seed)] if every else [])]
-    lines = [line for line in (question(rng, case) for case in made) if line]
+    lines = [question(rng, case) for case in made]
     return {verb.decode(): [line for line in lines if line.startswith(verb + b'\t')] for verb in VERBS.values()}
 
 

@@ -56,7 +56,7 @@ def round_trips(t):
         hold('lines and back', volumes.lines(volume), ('written', file))
         hold('a volume and back', volumes.make(volumes.lines(volume)[1]), ('written', volume))
     problems = [(2 * i + 1, edition, text) for i, (edition, text) in enumerate((e, text) for e in (A, B) for text in t.by[e, 0][:40])]
-    volume = volumes.bind(problems)[1]
+    volume = volumes.volume_of(problems)
     for number, edition, text in problems:
         hold('a bound problem', volumes.problem(volume, number), ('found', edition, text))
         hold('one not bound', volumes.problem(volume, number + 1), ('absent',))

@@ -1,7 +1,9 @@
-// `bind TAB room lines`, `unbind TAB room volume`, `contents TAB volume` and `problem TAB number volume`, single spaces between: old lines into a volume, a
-// volume back into lines, how many problems it has, and one of them. Lines and volumes are bytes in hexadecimal, and the room is that of the lent slice.
+// `bind TAB room lines`, `unbind TAB room volume`, `contents TAB volume`, `problem TAB number volume` and `add TAB room number edition volume text`, single
+// spaces between: old lines into a volume, a volume back into lines, how many problems it has, one of them, and one problem more. Lines and volumes are bytes in hexadecimal, and the room is that of the lent slice.
 use laws::Edition;
 use laws::Position;
+use position_text::Form;
+use volume_contents::Why;
 use volume_contents::Written;
 use volume_read::Checked;
 use volume_read::Found;
@@ -28,6 +30,9 @@ pub fn answer(line: &[u8], out: &mut [u8; 65536]) -> usize
     }
     if fields::inner::starts(line, b"problem\t") {
         return problem(line, at, out);
+    }
+    if fields::inner::starts(line, b"add\t") {
+        return add(line, at, out);
     }
     0
 }
@@ -56,6 +61,64 @@ fn converted(back: bool, given: &[u8], slice: &mut [u8]) -> Written {
     } else {
         volume_make::to_volume(given, slice)
     }
+}
+
+// One problem more; 14, with the line 0, where its text is out of form.
+fn add(line: &[u8], at: usize, out: &mut [u8; 65536]) -> usize
+    ensures { λ n. ⌜ Grows 0 n ⌝ }
+{
+    let number = fields::inner::after(line, at, b' ');
+    let edition = fields::inner::after(line, number, b' ');
+    let volume = fields::inner::after(line, edition, b' ');
+    let text = fields::inner::after(line, volume, b' ');
+    let terms = volume_contents::inner::edition_of(fields::inner::byte(line, edition));
+    let raw = position_text::inner::read_raw(fields::inner::text(line, text), terms);
+    let form = raw.form;
+    match form {
+        Form::OutOfForm => refusals::put(Why::Line(0), out),
+        Form::InForm => {
+            let board = raw.position;
+            let k = fields::inner::number(line, number) as usize;
+            put_longer(line, volume, k, board, room(line, at), out)
+        }
+    }
+}
+
+// The volume from a place on, with the board behind its problems.
+fn put_longer(
+    line: &[u8],
+    at: usize,
+    number: usize,
+    board: Position,
+    size: usize,
+    out: &mut [u8; 65536],
+) -> usize
+    requires { ⌜ size ≤ 16384 ⌝ }
+    ensures { λ n. ⌜ Grows 0 n ⌝ }
+{
+    let mut given = [0u8; 16384];
+    let n = bytes::read(line, at, &mut given);
+    let mut slice = [0u8; 16384];
+    put_added(
+        bytes::first(&given, n),
+        number,
+        board,
+        &mut slice[..size],
+        out,
+    )
+}
+
+fn put_added(
+    volume: &[u8],
+    number: usize,
+    board: Position,
+    slice: &mut [u8],
+    out: &mut [u8; 65536],
+) -> usize
+    ensures { λ n. ⌜ Grows 0 n ⌝ }
+{
+    let w = volume_add::add(volume, number, board, slice);
+    put_written(w, slice, out)
 }
 
 // How many bytes are lent: all 16,384 for `-`, and where more are named.
