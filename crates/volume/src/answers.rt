@@ -19,7 +19,7 @@ pub enum Answer {
 }
 
 // `input` and `other` are the names of the file that was read and of what stood behind it; `of_lines` where a place in the file is a line.
-pub fn tell(a: Answer, of_lines: bool, input: &[u8], other: &[u8], out: &mut [u8; 65536]) {
+pub(super) fn tell(a: Answer, of_lines: bool, input: &[u8], other: &[u8], out: &mut [u8; 65536]) {
     match a {
         Answer::Problems(n) => say_problems(out, n),
         Answer::Refused(w) => say_refused(out, w, of_lines),
@@ -42,7 +42,7 @@ fn fail(name: &[u8], what: &[u8]) {
 }
 
 // One write.
-pub fn say(out: &mut [u8; 65536], s: Sink)
+pub(super) fn say(out: &mut [u8; 65536], s: Sink)
     requires { ⌜ s .len ≤ 65536 ⌝ }
 {
     let done = sink::flush(out, s);

@@ -16,7 +16,7 @@ pub struct Passed {
     pub clock: Clock,
 }
 
-pub fn pass(answer: Answer, clock: Clock) -> Passed {
+pub(super) fn pass(answer: Answer, clock: Clock) -> Passed {
     Passed { answer, clock }
 }
 
@@ -27,7 +27,7 @@ pub enum Judged {
 }
 
 // 18 and 1 to 6 of what was read at a place.
-pub fn judge(raw: Raw, place: usize) -> Judged {
+pub(super) fn judge(raw: Raw, place: usize) -> Judged {
     let form = raw.form;
     match form {
         Form::OutOfForm => Judged::Refused(Why::Body(place)),
@@ -42,7 +42,7 @@ pub fn judge(raw: Raw, place: usize) -> Judged {
 }
 
 // Whether what was read is an accepted board.
-pub fn is_sound(raw: Raw) -> bool {
+pub(super) fn is_sound(raw: Raw) -> bool {
     let j = judge(raw, 0);
     match j {
         Judged::Refused(_) => false,
@@ -51,7 +51,7 @@ pub fn is_sound(raw: Raw) -> bool {
 }
 
 // 18 and 1 to 6 of the n bodies of a volume, each in the edition of its row.
-pub fn judge_all(
+pub(super) fn judge_all(
     f: File,
     n: u16,
     rows: &mut [u8; 65536],

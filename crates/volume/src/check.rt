@@ -8,7 +8,7 @@ use super::file::File;
 use super::file::Opened;
 use super::table;
 
-pub fn check(input: &[u8], rows: &mut [u8; 65536], boards: &mut [u8; 65536]) -> Answer {
+pub(super) fn check(input: &[u8], rows: &mut [u8; 65536], boards: &mut [u8; 65536]) -> Answer {
     let o = file::open(input);
     match o {
         Opened::Unread => Answer::Unread,
@@ -21,7 +21,12 @@ pub fn check(input: &[u8], rows: &mut [u8; 65536], boards: &mut [u8; 65536]) -> 
 }
 
 // `back` is on the way to lines, and this the first pass.
-pub fn judge(f: File, back: bool, rows: &mut [u8; 65536], boards: &mut [u8; 65536]) -> Passed {
+pub(super) fn judge(
+    f: File,
+    back: bool,
+    rows: &mut [u8; 65536],
+    boards: &mut [u8; 65536],
+) -> Passed {
     let clock = clock::start();
     let h = table::head(f, rows);
     match h {

@@ -9,7 +9,7 @@ pub struct Clock {
     pub is_shown: bool,
 }
 
-pub fn start() -> Clock {
+pub(super) fn start() -> Clock {
     Clock {
         second: now(),
         begun: 0,
@@ -24,7 +24,7 @@ fn now() -> i64 {
 }
 
 // So many problems are done. At most one sign a second, and none before the third second begins.
-pub fn tick(c: Clock, problems: usize) -> Clock {
+pub(super) fn tick(c: Clock, problems: usize) -> Clock {
     if !c.is_on {
         return c;
     }
@@ -53,7 +53,7 @@ pub fn tick(c: Clock, problems: usize) -> Clock {
 }
 
 // The sign goes.
-pub fn stop(c: Clock) {
+pub(super) fn stop(c: Clock) {
     if c.is_shown {
         io::write_all(STDERR_FILENO, b"\r\x1b[K");
     }

@@ -14,7 +14,7 @@ use super::sink::Poured;
 use super::sink::Sink;
 ghost use Prim.Native.Nat.{_≤_};
 
-pub fn convert(
+pub(super) fn convert(
     back: bool,
     input: &[u8],
     target: &[u8],

@@ -17,7 +17,7 @@ pub enum Opened {
 }
 
 // A file that is more than regular, as a device or a pipe, has no size, or bytes behind it.
-pub fn open(path: &[u8]) -> Opened {
+pub(super) fn open(path: &[u8]) -> Opened {
     let fd = os::open_read(path);
     if fd < 0 {
         return Opened::Unread;
@@ -37,7 +37,7 @@ pub fn open(path: &[u8]) -> Opened {
 }
 
 // Whether nothing stands behind the file's size.
-pub fn is_whole(f: File) -> bool {
+pub(super) fn is_whole(f: File) -> bool {
     let fd = f.fd;
     byte_at(fd, f.size) == 0
 }
@@ -52,7 +52,7 @@ fn byte_at(fd: i32, at: usize) -> isize {
 }
 
 // Why bytes inside the file's size do not come: it is shorter by now, or cannot be read.
-pub fn lacking(f: File) -> Answer {
+pub(super) fn lacking(f: File) -> Answer {
     let fd = f.fd;
     let size = f.size;
     if size > 0 {
@@ -64,7 +64,7 @@ pub fn lacking(f: File) -> Answer {
 }
 
 // The answer of a second pass that met so many problems again, n having been there before.
-pub fn same_as(f: File, n: u16, count: usize) -> Answer {
+pub(super) fn same_as(f: File, n: u16, count: usize) -> Answer {
     if (count == n as usize) & is_whole(f) {
         return Answer::Problems(n);
     }
@@ -72,7 +72,7 @@ pub fn same_as(f: File, n: u16, count: usize) -> Answer {
 }
 
 // Reads n bytes from the place `at` on.
-pub fn fill(fd: i32, at: usize, chunk: &mut [u8], n: usize) -> bool
+pub(super) fn fill(fd: i32, at: usize, chunk: &mut [u8], n: usize) -> bool
     requires { ⌜ (n ≤ length (now chunk)) × (n ≤ 65536) ⌝ }
 {
     if at > 4611686018427387904 {
@@ -90,7 +90,7 @@ pub fn fill(fd: i32, at: usize, chunk: &mut [u8], n: usize) -> bool
     true
 }
 
-pub fn least(a: usize, b: usize) -> usize
+pub(super) fn least(a: usize, b: usize) -> usize
     ensures { λ r. ⌜ r ≡ min a b ⌝ }
 {
     if a < b { a } else { b }

@@ -12,7 +12,7 @@ use laws::Edition;
 ghost use Prim.Native.Nat.{_≤_};
 
 // The second pass. The bodies are read again, and have to be what they were.
-pub fn put_all(
+pub(super) fn put_all(
     f: File,
     n: u16,
     chunk: &mut [u8; 65536],

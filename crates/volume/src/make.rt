@@ -18,7 +18,7 @@ ghost use Prim.Native.Nat.{_≤_};
 ghost use lib.ListN.{length};
 
 // The first pass: 14 over all lines, then 17, then 1 to 6. Where no line in form starts a chunk, what does is out of form, too long or without its newline.
-pub fn survey(f: File, chunk: &mut [u8; 65536], start: Clock) -> Passed {
+pub(super) fn survey(f: File, chunk: &mut [u8; 65536], start: Clock) -> Passed {
     let mut clock = start;
     let fd = f.fd;
     let size = f.size;
@@ -56,7 +56,7 @@ fn verdict(count: usize, named: Named) -> Answer {
 }
 
 // The second pass: the head, the rows and the bodies.
-pub fn put_all(
+pub(super) fn put_all(
     f: File,
     n: u16,
     chunk: &mut [u8; 65536],

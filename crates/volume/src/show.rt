@@ -20,7 +20,12 @@ enum Parsed {
     Nothing,
 }
 
-pub fn show(input: &[u8], name: &[u8], chunk: &mut [u8; 65536], out: &mut [u8; 65536]) -> Answer {
+pub(super) fn show(
+    input: &[u8],
+    name: &[u8],
+    chunk: &mut [u8; 65536],
+    out: &mut [u8; 65536],
+) -> Answer {
     let p = parse(name);
     match p {
         Parsed::Nothing => Answer::NoNumber,

@@ -22,7 +22,7 @@ pub struct Poured {
     pub clock: Clock,
 }
 
-pub fn pour(answer: Answer, sink: Sink, clock: Clock) -> Poured
+pub(super) fn pour(answer: Answer, sink: Sink, clock: Clock) -> Poured
     requires { ⌜ sink .len ≤ 65536 ⌝ }
     ensures { λ r. ⌜ r .sink .len ≤ 65536 ⌝ }
 {
@@ -33,7 +33,7 @@ pub fn pour(answer: Answer, sink: Sink, clock: Clock) -> Poured
     }
 }
 
-pub fn open(fd: i32) -> Sink
+pub(super) fn open(fd: i32) -> Sink
     ensures { λ r. ⌜ r .len ≡ 0 ⌝ }
 {
     Sink {
@@ -44,7 +44,7 @@ pub fn open(fd: i32) -> Sink
 }
 
 // Writes what waits.
-pub fn flush(out: &mut [u8; 65536], s: Sink) -> Sink
+pub(super) fn flush(out: &mut [u8; 65536], s: Sink) -> Sink
     requires { ⌜ s .len ≤ 65536 ⌝ }
     ensures { λ r. ⌜ r .len ≡ 0 ⌝ }
 {
@@ -70,7 +70,7 @@ fn with_room(out: &mut [u8; 65536], s: Sink) -> Sink
     flush(out, s)
 }
 
-pub fn put(out: &mut [u8; 65536], s: Sink, bytes: &[u8]) -> Sink
+pub(super) fn put(out: &mut [u8; 65536], s: Sink, bytes: &[u8]) -> Sink
     requires { ⌜ (s .len ≤ 65536) × (length (now bytes) ≤ 100) ⌝ }
     ensures { λ r. ⌜ r .len ≤ 65536 ⌝ }
 {
@@ -85,7 +85,7 @@ pub fn put(out: &mut [u8; 65536], s: Sink, bytes: &[u8]) -> Sink
     }
 }
 
-pub fn put_line(out: &mut [u8; 65536], s: Sink, l: Line) -> Sink
+pub(super) fn put_line(out: &mut [u8; 65536], s: Sink, l: Line) -> Sink
     requires { ⌜ (s .len ≤ 65536) × (l .len ≤ 81) ⌝ }
     ensures { λ r. ⌜ r .len ≤ 65536 ⌝ }
 {
@@ -94,7 +94,7 @@ pub fn put_line(out: &mut [u8; 65536], s: Sink, l: Line) -> Sink
     put(out, s, &bytes[..n])
 }
 
-pub fn put_number(out: &mut [u8; 65536], s: Sink, n: usize) -> Sink
+pub(super) fn put_number(out: &mut [u8; 65536], s: Sink, n: usize) -> Sink
     requires { ⌜ s .len ≤ 65536 ⌝ }
     ensures { λ r. ⌜ r .len ≤ 65536 ⌝ }
 {
@@ -104,7 +104,7 @@ pub fn put_number(out: &mut [u8; 65536], s: Sink, n: usize) -> Sink
 }
 
 // Ends the file: where all went well it gets its name, and otherwise it goes.
-pub fn end(out: &mut [u8; 65536], p: Poured, part: &[u8], target: &[u8]) -> Answer
+pub(super) fn end(out: &mut [u8; 65536], p: Poured, part: &[u8], target: &[u8]) -> Answer
     requires { ⌜ p .sink .len ≤ 65536 ⌝ }
 {
     let s = p.sink;

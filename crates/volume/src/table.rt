@@ -8,7 +8,7 @@ ghost use Prim.Native.Nat.{_+_, _≤_};
 ghost use Rattle.volume_contents.specs.inner.Walks.{Rising};
 
 // How many problems a volume has, or how its head fails.
-pub fn head(f: File, chunk: &mut [u8; 65536]) -> Answer {
+pub(super) fn head(f: File, chunk: &mut [u8; 65536]) -> Answer {
     let fd = f.fd;
     let size = f.size;
     let n = file::least(size, 6);
@@ -39,7 +39,7 @@ pub struct Table {
 }
 
 // Tests the rows, and looks for one with the number; `back` is on the way to lines.
-pub fn walk(f: File, n: u16, back: bool, number: usize, rows: &mut [u8; 65536]) -> Table {
+pub(super) fn walk(f: File, n: u16, back: bool, number: usize, rows: &mut [u8; 65536]) -> Table {
     let fd = f.fd;
     let all = n as usize;
     let mut found = Found { row: 0, edition: 0 };
