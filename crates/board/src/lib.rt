@@ -18,7 +18,7 @@ pub mod inner; // inner.rt: the gate over a lent table
 
 // Six sets by kind and two by colour; the worked-out union, pins and checkers; the turn, each colour's rights, the en passant
 // state, and the terms that it is read by.
-#[derive(Drop)]
+#[derive(Clone, Copy)]
 pub struct RetractableBoard {
     pub pieces: [u64; 6],
     pub colors: [u64; 2],
@@ -33,7 +33,7 @@ pub struct RetractableBoard {
 }
 
 // A board, or a refusal beside the empty board.
-#[derive(Drop)]
+#[derive(Clone, Copy)]
 pub struct Boarded {
     pub verdict: Verdict,
     pub board: RetractableBoard,

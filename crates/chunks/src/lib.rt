@@ -2,7 +2,7 @@
 pub mod inner; // inner.rt: the search for the newline, and the cut at it
 
 // How the bytes of a line end: not yet, at a newline, at the end of the input, or at a read that failed.
-#[derive(Drop)]
+#[derive(Clone, Copy)]
 pub enum Ending {
     Open,
     Newline,
@@ -11,7 +11,7 @@ pub enum Ending {
 }
 
 // A line on its way into the line's buffer, and the unread bytes behind it.
-#[derive(Drop)]
+#[derive(Clone, Copy)]
 pub struct Part {
     pub at: usize,
     pub end: usize,

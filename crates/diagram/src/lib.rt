@@ -2,7 +2,7 @@
 pub mod inner; // inner.rt: squares, ranks and the whole diagram, put behind the first bytes of a buffer
 
 // The men of a board, and the squares that a man came from and went to; 64 marks none.
-#[derive(Drop)]
+#[derive(Clone, Copy)]
 pub struct Drawing {
     pub pieces: [u64; 6],
     pub colors: [u64; 2],

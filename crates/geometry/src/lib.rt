@@ -4,7 +4,7 @@ ghost use Rattle.geometry.specs.Colors.{opp, is_white};
 
 pub mod inner; // inner.rt: ranks and squares as a colour counts them
 
-#[derive(Drop)]
+#[derive(Clone, Copy)]
 pub enum Color {
     White,
     Black,

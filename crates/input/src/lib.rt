@@ -9,7 +9,7 @@ use chunks::{Ending, Part};
 use libc::STDIN_FILENO;
 
 // The bytes at..end of what was read are unread.
-#[derive(Drop)]
+#[derive(Clone, Copy)]
 pub struct Cursor {
     pub at: usize,
     pub end: usize,

@@ -7,7 +7,7 @@ pub use geometry::Color;
 
 pub mod inner; // inner.rt: packing into 16 bits, and none made unknown; inner/castling.rt: rights and homes
 
-#[derive(Drop)]
+#[derive(Clone, Copy)]
 pub enum Piece {
     Pawn,
     Knight,
@@ -18,7 +18,7 @@ pub enum Piece {
 }
 
 // The castling rights of one colour.
-#[derive(Drop)]
+#[derive(Clone, Copy)]
 pub enum CastleRights {
     NoRights,
     KingSide,
@@ -27,14 +27,14 @@ pub enum CastleRights {
 }
 
 // The king's side and the queen's side.
-#[derive(Drop)]
+#[derive(Clone, Copy)]
 pub enum Side {
     Short,
     Long,
 }
 
 // What a move changes beside its two squares: nothing, a pawn taken en passant, the rook of a castling.
-#[derive(Drop)]
+#[derive(Clone, Copy)]
 pub enum Way {
     Plain,
     Passant,
@@ -42,7 +42,7 @@ pub enum Way {
 }
 
 // The en passant state: unknown, the square of the pawn that has just made a double step, or none.
-#[derive(Drop)]
+#[derive(Clone, Copy)]
 pub enum EnPassantFlag {
     Any,
     Some(u8),
@@ -51,14 +51,14 @@ pub enum EnPassantFlag {
 
 // How a board's state is read. Edition A: a dash says that no enemy pawn stood beside a double step. Edition B, the PGN reading: a dash says that
 // the last move was no double step, and a named square needs no pawn beside it.
-#[derive(Drop)]
+#[derive(Clone, Copy)]
 pub enum Edition {
     A,
     B,
 }
 
 // What a board is read by, and no move changes.
-#[derive(Drop)]
+#[derive(Clone, Copy)]
 pub struct Terms {
     pub edition: Edition,
 }
@@ -72,7 +72,7 @@ pub fn terms_of(edition: Edition) -> Terms
 
 // A board's fields without the worked-out ones: the sets of the men by kind and by colour, the turn, each colour's rights, the state, and the
 // terms that it is read by.
-#[derive(Drop)]
+#[derive(Clone, Copy)]
 pub struct Position {
     pub pieces: [u64; 6],
     pub colors: [u64; 2],
@@ -84,7 +84,7 @@ pub struct Position {
 }
 
 // All fields of a board: those of its position, and the union, pins and checkers worked out of them.
-#[derive(Drop)]
+#[derive(Clone, Copy)]
 pub struct Board {
     pub pieces: [u64; 6],
     pub colors: [u64; 2],
@@ -99,7 +99,7 @@ pub struct Board {
 }
 
 // A man goes back from the source (today) to the target (earlier); `uncaptured` is the number of the man that reappears on the source.
-#[derive(Drop)]
+#[derive(Clone, Copy)]
 pub struct ChessRetraction {
     pub source: u8,
     pub target: u8,

@@ -2,7 +2,7 @@
 pub mod inner; // inner.rt: printing into a line, and reading letters into sets
 
 // A text by value: its first `len` bytes.
-#[derive(Drop)]
+#[derive(Clone, Copy)]
 pub struct Line {
     pub bytes: [u8; 81],
     pub len: usize,

@@ -6,14 +6,14 @@ pub use men_field::Line;
 pub mod inner; // inner.rt: the printer, the reader, and the copy into a lent slice
 
 // Whether a text has the form.
-#[derive(Drop)]
+#[derive(Clone, Copy)]
 pub enum Form {
     InForm,
     OutOfForm,
 }
 
 // What a text says: the empty position where it has not the form.
-#[derive(Drop)]
+#[derive(Clone, Copy)]
 pub struct Raw {
     pub form: Form,
     pub position: Position,
@@ -27,7 +27,7 @@ pub enum Copied {
 }
 
 // What is read so far, leniently: a text out of form gives something too.
-#[derive(Drop)]
+#[derive(Clone, Copy)]
 pub struct Scan {
     pub men: [u8; 64],
     pub at: usize,

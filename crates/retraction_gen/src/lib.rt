@@ -11,7 +11,7 @@ use retraction_list::SourceAndTargets;
 pub mod inner; // inner.rt: making the cursor, and one turn of it
 
 // The entries, 47 at most; the place of the entry in work and the number of its uncapture; the squares of each uncapture.
-#[derive(Drop)]
+#[derive(Clone, Copy)]
 pub struct RetractionGen {
     pub entries: [SourceAndTargets; 47],
     pub len: usize,
@@ -34,7 +34,7 @@ pub struct Masks {
     pub masks: [u64; 6],
 }
 
-#[derive(Drop)]
+#[derive(Clone, Copy)]
 pub enum Next {
     Retraction(ChessRetraction),
     End,

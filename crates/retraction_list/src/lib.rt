@@ -2,7 +2,7 @@
 pub mod inner; // inner.rt: filling it
 
 // Whether the retraction may, must or must not give back a man, or is un-en-passant.
-#[derive(Drop)]
+#[derive(Clone, Copy)]
 pub enum UnCaptureKind {
     Optional,
     Necessary,
@@ -11,7 +11,7 @@ pub enum UnCaptureKind {
 }
 
 // A man on the source goes back to any of the targets.
-#[derive(Drop)]
+#[derive(Clone, Copy)]
 pub struct SourceAndTargets {
     pub source: u8,
     pub targets: u64,
@@ -20,7 +20,7 @@ pub struct SourceAndTargets {
 }
 
 // `full` says that a 48th entry was asked for.
-#[derive(Drop)]
+#[derive(Clone, Copy)]
 pub struct RetractionList {
     pub entries: [SourceAndTargets; 47],
     pub len: usize,

@@ -2,7 +2,7 @@
 use refusal::Refusal;
 
 // How many were written; how many slots are needed; or why the board is refused.
-#[derive(Drop)]
+#[derive(Clone, Copy)]
 pub enum Listed {
     Count(usize),
     Room(usize),

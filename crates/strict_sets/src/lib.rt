@@ -2,7 +2,7 @@
 pub mod inner; // inner.rt: the sets of a source; inner/coming.rt, inner/asked.rt, inner/calm.rt: what they are made of
 
 // The targets of a source: unmarked and marked, with nothing uncaptured and with a man; and which men.
-#[derive(Drop)]
+#[derive(Clone, Copy)]
 pub struct Targets {
     pub plain: u64,
     pub taking: u64,

@@ -3,7 +3,7 @@ pub use laws::{Color, Edition, EnPassantFlag, Position};
 
 pub mod inner; // inner.rt: looking at a position
 
-#[derive(Drop)]
+#[derive(Clone, Copy)]
 pub struct View {
     // `retracting_color`, and its castling rights: whether it has one, and `castling_rooks`
     pub color: Color,

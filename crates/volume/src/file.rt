@@ -5,7 +5,7 @@ use super::answers::Answer;
 use libc::SEEK_END;
 
 // A file of `size` bytes.
-#[derive(Drop)]
+#[derive(Clone, Copy)]
 pub struct File {
     pub fd: i32,
     pub size: usize,

@@ -7,7 +7,7 @@ use refusal::Refusal;
 pub mod inner; // inner.rt: head and rows, written and read; inner/tests.rt: the tests of 17
 
 // A row of the table, as its bytes say it.
-#[derive(Drop)]
+#[derive(Clone, Copy)]
 pub struct Entry {
     pub number: usize,
     pub edition: u8,
@@ -17,7 +17,7 @@ pub struct Entry {
 
 // The tests of 17 by what fails them, in their order: three on the head, nine on a row, of which the last two are for the way back to lines; and that a
 // register of lines has not too many of them.
-#[derive(Drop)]
+#[derive(Clone, Copy)]
 pub enum Flaw {
     Mark,
     Version,
@@ -50,7 +50,7 @@ pub struct Walked {
 }
 
 // Why a volume, or the lines of one, are refused, with the line or the row, counted from 1; the head is row 0. Room has the number of bytes needed.
-#[derive(Drop)]
+#[derive(Clone, Copy)]
 pub enum Why {
     Line(usize),
     Contents(Flaw, usize),
