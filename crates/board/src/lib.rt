@@ -1,4 +1,6 @@
 // The board of the Rust's board.rs, its gate (refusals 1 to 7) and its small methods. Every entry that takes a board tests it first.
+#![tactic(auto)]
+
 ghost use Rattle.std.specs.Prelude.{◌≡◌, ◌++◌, ◌<◌};
 ghost use Rattle.laws.specs.Attacks.{attackers_of, attacked};
 ghost use Rattle.laws.specs.Positions.{uncertain};

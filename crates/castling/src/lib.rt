@@ -1,4 +1,6 @@
 // Which men forbid a castling: those that attack the squares of the king's way, on the board before it.
+#![tactic(auto)]
+
 ghost use Rattle.std.specs.Prelude.{◌≡◌, ◌++◌};
 ghost use Rattle.refusal.specs.Said.{behind};
 ghost use Rattle.board.specs.Gate.{pos_on, board_tests};

@@ -1,4 +1,6 @@
 // A chunk of bytes cut at a newline: what stands before it goes into a line's buffer, as far as there is room.
+#![tactic(auto)]
+
 pub mod inner; // inner.rt: the search for the newline, and the cut at it
 
 // How the bytes of a line end: not yet, at a newline, at the end of the input, or at a read that failed.

@@ -1,4 +1,6 @@
 // The study table: boards under study of two desks, kept in one lent slice of words. docs/STUDY_TABLE.md has its layout.
+#![tactic(auto)]
+
 ghost use Rattle.std.specs.Prelude.{◌≡◌};
 ghost use Rattle.desks.specs.Desks.{why_number, put, fetch, drop};
 ghost use Rattle.desks.specs.Calls.{placed_answer, told_answer, fetched_answer, Answers, SetsUp};

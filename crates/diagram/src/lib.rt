@@ -1,4 +1,6 @@
 // What a reader sees of a board: a diagram in text.
+#![tactic(auto)]
+
 pub mod inner; // inner.rt: squares, ranks and the whole diagram, put behind the first bytes of a buffer
 
 // The men of a board, and the squares that a man came from and went to; 64 marks none.

@@ -1,4 +1,6 @@
 // What a hexadecimal digit of a line stands for.
+#![tactic(auto)]
+
 ghost use Rattle.std.specs.Prelude.{◌≡◌};
 ghost use Rattle.digits.specs.Digits.{hex_digit};
 

@@ -1,4 +1,6 @@
 // The colours: the two directions of the board. What lines, squares between and steps mean stands in specs/.
+#![tactic(auto)]
+
 ghost use Rattle.std.specs.Prelude.{◌≡◌};
 ghost use Rattle.geometry.specs.Colors.{opp, is_white};
 

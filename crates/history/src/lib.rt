@@ -1,5 +1,7 @@
 // Whether a board has a past of one to four plies, and the first one. Of the boards below it knows what their contracts say: it goes through the strict
 // list by `strict::inner::strict_from`, and back by un-make, both over one lent table of squares between.
+#![tactic(auto)]
+
 ghost use Rattle.std.specs.Prelude.{◌≡◌};
 ghost use Rattle.history.specs.Histories.{why_number, Answers};
 

@@ -1,4 +1,6 @@
 // What a person gets who asks for a past of so many plies: the first history of a text's board, ply under ply, or `none`, or its refusal.
+#![tactic(auto)]
+
 ghost use Rattle.history_reply.specs.Replies.{Replies};
 
 pub mod inner; // inner.rt: the answer to a text and a depth, in writing, and that to a line over a lent table

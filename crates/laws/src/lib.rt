@@ -1,4 +1,6 @@
 // The names of the board. What they mean, the Laws of chess and the rules of retraction, stands in specs/.
+#![tactic(auto)]
+
 ghost use Rattle.std.specs.Prelude.{◌≡◌};
 ghost use Rattle.laws.specs.Positions.{terms_of};
 ghost use Rattle.laws.specs.Retractions.{unpacked};

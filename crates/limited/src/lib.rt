@@ -1,4 +1,6 @@
 // `is_limited_in_retractions` of the Rust's retraction_gen.rs.
+#![tactic(auto)]
+
 ghost use Rattle.std.specs.Prelude.{◌≡◌, [], ◌∷◌};
 ghost use Rattle.geometry.specs.Lines.{IsBetween};
 ghost use Rattle.refusal.specs.Said.{told};

@@ -1,4 +1,6 @@
 // The iterator's sequence into lent 16-bit slots.
+#![tactic(auto)]
+
 ghost use Rattle.std.specs.Prelude.{map};
 ghost use Rattle.laws.specs.Retractions.{packed};
 ghost use Rattle.refusal.specs.Said.{Writes};

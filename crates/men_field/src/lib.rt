@@ -1,4 +1,6 @@
 // The first field of a text, the men: one rank, eight ranks, and the sets that 64 squares say. What a text is stands in specs/.
+#![tactic(auto)]
+
 pub mod inner; // inner.rt: printing into a line, and reading letters into sets
 
 // A text by value: its first `len` bytes.

@@ -1,4 +1,6 @@
 // Bytes put behind those of a buffer that are in use, all or none: what programs put their answers together with.
+#![tactic(auto)]
+
 ghost use Rattle.std.specs.Prelude.{◌≡◌};
 ghost use Rattle.io.specs.Digits.{last_digits};
 ghost use Rattle.output.specs.Appending.{used_of, Puts, PutsDecimal};

@@ -1,4 +1,6 @@
 // Positions by value: the men in arrays of sets, and what a move changes beside them. Union, checkers and pins are the board's.
+#![tactic(auto)]
+
 use laws::Position;
 use refusal::Verdict;
 

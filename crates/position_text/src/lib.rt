@@ -1,5 +1,7 @@
 // The text of a position: four fields, printed and read. Nothing is tested but the form: whether the men may stand so is for the crates above. What a text
 // is stands in specs/Form.
+#![tactic(auto)]
+
 use laws::Position;
 pub use men_field::Line;
 

@@ -1,4 +1,6 @@
 // What a person gets: the answer to a six-field record read in an edition, and a four-field text of ours sent out as a record.
+#![tactic(auto)]
+
 ghost use Rattle.reply.specs.Replies.{Shows};
 ghost use Rattle.record_reply.specs.Answers.{edition_text, Replies, Sends};
 

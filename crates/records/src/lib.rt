@@ -1,5 +1,7 @@
 // Six-field records: a board and its two counters, read and written. What a record is stands in specs/Form and, in the request's own words, in
 // specs/Grammar, over what record_fields says of its counters and of the square passed over; what the entries answer in specs/Entries.
+#![tactic(auto)]
+
 ghost use Rattle.std.specs.Prelude.{◌≡◌};
 ghost use Rattle.board.specs.Gate.{board_tests};
 ghost use Rattle.records.specs.Entries.{why_number, Reads, record_on, written_says, WritesRecord};

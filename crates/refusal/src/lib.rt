@@ -1,4 +1,6 @@
 // Refusals and their numbers: what is said of a board, a retraction, a text or a lent slice that is refused.
+#![tactic(auto)]
+
 ghost use Rattle.std.specs.Prelude.{◌≡◌};
 ghost use Rattle.refusal.specs.Refusals.{number_of};
 

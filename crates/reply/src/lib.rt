@@ -1,4 +1,6 @@
 // The answer to a line of input: its text, the checkers and the two lists of its board, or its refusal.
+#![tactic(auto)]
+
 ghost use Rattle.refusal.specs.Refusals.{number_of};
 ghost use Rattle.reply.specs.Replies.{refused_text, Shows, Replies};
 

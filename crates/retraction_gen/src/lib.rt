@@ -1,4 +1,6 @@
 // The cursor over a board's retractions: the Rust's retraction_gen.rs.
+#![tactic(auto)]
+
 ghost use Rattle.board.specs.Gate.{board_tests};
 ghost use Rattle.retraction_gen.specs.Making.{masks_on, list_tests, cursor_on, Makes, Masked};
 ghost use Rattle.retraction_gen.specs.Cursors.{Steps};

@@ -1,4 +1,6 @@
 // The list of the Rust's retraction_gen.rs: 47 places and a length.
+#![tactic(auto)]
+
 pub mod inner; // inner.rt: filling it
 
 // Whether the retraction may, must or must not give back a man, or is un-en-passant.

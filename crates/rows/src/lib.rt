@@ -1,4 +1,6 @@
 // What is printed of the two lists of a board and of its checkers: the lists' numbers, the checkers' squares, and a row for each retraction.
+#![tactic(auto)]
+
 ghost use Rattle.output.specs.Appending.{Puts};
 ghost use Rattle.rows.specs.Rows.{report_of};
 

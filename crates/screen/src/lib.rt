@@ -1,4 +1,6 @@
 // The stepping screen: a board, and one of its last moves for each press.
+#![tactic(auto)]
+
 ghost use Rattle.reply.specs.Replies.{Shows};
 ghost use Rattle.screen.specs.Screens.{opening_text, Shown};
 

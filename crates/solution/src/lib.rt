@@ -1,4 +1,6 @@
 // Solutions from other solvers, held to the strict list.
+#![tactic(auto)]
+
 ghost use Rattle.std.specs.Prelude.{◌≡◌};
 ghost use Rattle.solution.specs.Verdicts.{why_number, Checks};
 

@@ -1,4 +1,6 @@
 // The lines of a solution: bytes cut at newlines, each line our printed fields of a retraction without the list mark.
+#![tactic(auto)]
+
 ghost use Rattle.solution_lines.specs.Lines.{lines_of, TellsForm};
 
 pub mod inner; // inner.rt: the retraction that a line says

@@ -1,4 +1,6 @@
 // What an entrant is told of a file, the position on its first line and the solution below it: the verdict, or the refusal, in one line.
+#![tactic(auto)]
+
 ghost use Rattle.solution_reply.specs.Replies.{Replies};
 
 use laws::Edition;

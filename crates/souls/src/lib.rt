@@ -1,2 +1,4 @@
 // The souls of a side.
+#![tactic(auto)]
+
 pub mod inner; // inner.rt: souls by the count of ones

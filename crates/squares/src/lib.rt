@@ -1,5 +1,7 @@
 // Sets of squares as bits of a u64: the Rust's `BitBoard`. Squares are numbers from 0, a1, to 63, h8; a number above 63 is no square and
 // in no set.
+#![tactic(auto)]
+
 ghost use Rattle.std.specs.Prelude.{◌≡◌, cond, eqb};
 ghost use Rattle.squares.specs.Squares.{file, rank, has, set_of, only, size, besides, over_one, under_one, left_of_one, right_of_one};
 ghost use Rattle.squares.specs.Members.{lowest_of};

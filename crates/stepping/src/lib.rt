@@ -1,4 +1,6 @@
 // The lent cursor: whoever steps keeps it in a record of their own, and a press moves it on there.
+#![tactic(auto)]
+
 ghost use Rattle.retraction_gen.specs.Cursors.{Steps};
 ghost use Rattle.stepping.specs.Presses.{Press};
 

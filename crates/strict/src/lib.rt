@@ -1,4 +1,6 @@
 // The strict list of a board: demand 3.
+#![tactic(auto)]
+
 ghost use Rattle.strict.specs.Demand.{Lists, Counts, Answers};
 ghost use Rattle.strict.specs.Onward.{Finds};
 

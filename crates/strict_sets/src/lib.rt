@@ -1,4 +1,6 @@
 // The strict retractions of one source, as sets of targets.
+#![tactic(auto)]
+
 pub mod inner; // inner.rt: the sets of a source; inner/coming.rt, inner/asked.rt, inner/calm.rt: what they are made of
 
 // The targets of a source: unmarked and marked, with nothing uncaptured and with a man; and which men.

@@ -1,2 +1,4 @@
 // Whether a retraction is strict.
+#![tactic(auto)]
+
 pub mod inner; // inner.rt: the strict test of one retraction

@@ -1,4 +1,6 @@
 // The table of squares between, which the Rust takes from the crate `chess`.
+#![tactic(auto)]
+
 ghost use Rattle.geometry.specs.Lines.{IsBetween};
 
 pub mod inner; // inner.rt: squares between, read from the lent table

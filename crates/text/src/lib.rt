@@ -1,5 +1,7 @@
 // The text of a board: its position's, printed behind the board's gate, and read into a board. What the entries answer stands in specs/Entries, what a text
 // is in position_text/specs/Form.
+#![tactic(auto)]
+
 ghost use Rattle.std.specs.Prelude.{◌≡◌};
 ghost use Rattle.refusal.specs.Said.{Writes};
 ghost use Rattle.board.specs.Gate.{board_tests};

@@ -1,4 +1,6 @@
 // A board turned into the other edition: the same men, turn and rights, and what its state says there.
+#![tactic(auto)]
+
 ghost use Rattle.board.specs.Gate.{board_tests};
 ghost use Rattle.board.specs.Said.{Boards};
 ghost use Rattle.turning.specs.Turned.{turned_on};

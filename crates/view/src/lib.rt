@@ -1,4 +1,6 @@
 // What the lists of piece_type.rs read of a board, taken once: the `let`s that open each `legals`.
+#![tactic(auto)]
+
 pub use laws::{Color, Edition, EnPassantFlag, Position};
 
 pub mod inner; // inner.rt: looking at a position

@@ -1,4 +1,6 @@
 // One problem more: a volume and a board of either edition, under a number above those that it has, into a longer volume.
+#![tactic(auto)]
+
 ghost use Rattle.volume_add.specs.Adding.{Adds};
 
 use laws::Position;

@@ -1,4 +1,6 @@
 // The head of a volume and its table of contents: written, and tested by 17. What they are stands in specs/, and in words in docs/VOLUME.md.
+#![tactic(auto)]
+
 ghost use Rattle.std.specs.Prelude.{◌≡◌};
 ghost use Rattle.volume_contents.specs.Refusing.{why_number};
 

@@ -1,4 +1,6 @@
 // Old lines, texts of edition A with a newline each, looked at one by one: 14, and 1 to 6. What they are stands in specs/Register.
+#![tactic(auto)]
+
 use refusal::Verdict;
 
 pub mod inner; // inner.rt: the lines of a slice, and the first that is refused

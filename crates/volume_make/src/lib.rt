@@ -1,4 +1,6 @@
 // A volume made: of old lines, and of a volume and one problem more. What a volume is stands in specs/Volumes.
+#![tactic(auto)]
+
 ghost use Rattle.volume_make.specs.Making.{Makes};
 
 use refusal::Verdict;

@@ -1,4 +1,6 @@
 // A volume read: back into old lines, checked whole, and one problem of it by its number. What it answers stands in specs/Reading.
+#![tactic(auto)]
+
 ghost use Rattle.volume_read.specs.Reading.{Checks, Finds, Unmakes};
 
 use laws::Position;

@@ -1,0 +1,8 @@
+-- `back::inner::opened` meets its contract.
+use borrow.Author.Rules.{rules}
+use Rattle.incremental.specs.Moved.{opened_of}
+use Rattle.back.proofs.inner.opened.Goals as goal
+
+pub returns : goal.returns
+unfolding opened_of
+returns c = rw c.other-turn.ensures

@@ -1,0 +1,8 @@
+-- `back::inner::searched` meets its contract.
+use Rattle.incremental.specs.Found.{found_stored}
+use borrow.Author.Rules.{rules}
+use Rattle.back.proofs.inner.searched.Goals as goal
+
+pub returns : goal.returns
+unfolding found_stored
+returns c = rw (c.checkers.ensures, c.pins.ensures)

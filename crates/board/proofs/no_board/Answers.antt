@@ -1,0 +1,6 @@
+-- `board::no_board` meets its contract.
+use borrow.Author.Rules.{rules}
+use Rattle.board.proofs.no_board.Goals as goal
+
+pub returns : goal.returns
+returns c = rw c.terms_of-terms.ensures

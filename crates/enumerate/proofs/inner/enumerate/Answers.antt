@@ -1,0 +1,10 @@
+-- `enumerate::inner::enumerate` meets its contract.
+use borrow.Author.Rules.{rules}
+use Rattle.retraction_list.proofs.Answers.{is_full, is_held}
+use Rattle.enumerate.proofs.inner.enumerate.Goals as goal
+
+pub returns-then-l : goal.returns-then-l
+returns-then-l c = rw c.overfull.ensures (is_full _ (rw c.listed-l.ensures at c.if-l.true))
+
+pub returns : goal.returns
+returns c = rw c.listed-l.ensures (is_held _ (rw c.listed-l.ensures at c.if-l.false))

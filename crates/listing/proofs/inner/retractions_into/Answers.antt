@@ -1,0 +1,11 @@
+-- `listing::inner::retractions_into` meets its contract.
+use mathlib.Core.Path.{sym, ◌∙◌}
+use Rattle.listing.proofs.Told.{gate_told}
+use borrow.Author.Rules.{rules}
+use Rattle.listing.proofs.inner.retractions_into.Goals as goal
+
+pub list-requires : goal.list-requires
+list-requires c = (c.requires, sym c.gate-v.ensures ∙ c.in-Accepted.is)
+
+pub returns-in-Refused : goal.returns-in-Refused
+returns-in-Refused c = gate_told _ _ c.gate-v.ensures _ c.in-Refused.is

@@ -1,0 +1,16 @@
+use mathlib.Core.Bool.{Bool}
+use mathlib.Core.Path.{ap, ◌∙◌}
+use mathlib.Core.Logic.{⊎_elim}
+use Prim.Native.Nat.{ℕ, ◌-◌}
+use native.Mathlib.Omega.{arith}
+use lib.ListN.{get_or}
+use borrow.Author.Rules.{rules}
+use Rattle.men_field.specs.inner.Letters.{place_of, belongs}
+use Rattle.squares.proofs.Collect.{Collected, collect_none, collect_yes, collect_no, collect_done}
+use Rattle.men_field.proofs.inner.set_of.Given as goal
+
+abbrev pub invariant-loop-k : goal.invariant-loop-k
+invariant-loop-k l = Collected (λ a. belongs l.w (get_or l.men (place_of a) 0)) l.r l.k
+
+abbrev pub decreases-loop-k : goal.decreases-loop-k
+decreases-loop-k l = 64 - l.k

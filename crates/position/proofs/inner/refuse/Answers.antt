@@ -1,0 +1,6 @@
+-- `position::inner::refuse` meets its contract.
+use borrow.Author.Rules.{rules}
+use Rattle.position.proofs.inner.refuse.Goals as goal
+
+pub returns : goal.returns
+returns c = rw c.nothing-position.ensures

@@ -1,0 +1,7 @@
+-- `puts::inner::set` meets its contract.
+use borrow.Author.Rules.{rules}
+use Rattle.puts.proofs.Grown.{grown}
+use Rattle.puts.proofs.inner.set.Goals as goal
+
+pub returns : goal.returns
+returns c = grown _ _ _ _ _ c.put_hex16.ensures _ c.used.ensures (search rules)

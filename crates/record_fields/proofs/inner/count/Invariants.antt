@@ -1,0 +1,13 @@
+use mathlib.Core.Path.{◌≡◌, refl, sym, ◌∙◌, subst}
+use Prim.Native.Nat.{ℕ, ◌-◌, ◌≤◌}
+use native.Mathlib.Omega.{arith}
+use lib.ListN.{length, drop}
+use Rattle.record_fields.specs.inner.Counting.{Counted, count_run}
+use Rattle.record_fields.proofs.Decimals.{run_step, run_done, walk_counted}
+use Rattle.record_fields.proofs.inner.count.Given as goal
+
+abbrev pub invariant-loop-i : goal.invariant-loop-i
+invariant-loop-i l = (l.i ≤ length l.t) × (l.s ≤ 10002) × (count_run l.s (drop l.i l.t) ≡ count_run 10001 l.t)
+
+abbrev pub decreases-loop-i : goal.decreases-loop-i
+decreases-loop-i l = length l.t - l.i

@@ -1,0 +1,13 @@
+-- `replay::inner::filled` meets its contract.
+use Rattle.position.proofs.Composing.{with_own, puts}
+use borrow.Author.Rules.{rules}
+use Rattle.replay.proofs.inner.filled.Goals as goal
+
+pub returns-in-Plain : goal.returns-in-Plain
+returns-in-Plain c = rw c.in-Plain.is (with_own c.args.p c.requires)
+
+pub returns-in-Passant : goal.returns-in-Passant
+returns-in-Passant c = rw c.in-Passant.is (with_own c.args.p c.requires)
+
+pub returns-in-Castle : goal.returns-in-Castle
+returns-in-Castle c = rw c.in-Castle.is (puts c.args.p _ _ c.put_man.ensures c.rook_to-q.ensures.0 c.man_number.ensures.0)

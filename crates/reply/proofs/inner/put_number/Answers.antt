@@ -1,0 +1,9 @@
+-- `reply::inner::put_number` meets its contract.
+use native.Mathlib.Omega.{arith}
+use Rattle.output.proofs.Added.{used_adds}
+use Rattle.reply.proofs.Shown.{refused_shown}
+use borrow.Author.Rules.{rules}
+use Rattle.reply.proofs.inner.put_number.Goals as goal
+
+pub returns : goal.returns
+returns c = refused_shown c.args.out.now _ _ _ _ _ _ _ _ (search rules) (omega arith) (used_adds _ _ _ _ _ c.put_bytes.ensures _ c.used-a.ensures) c.put_decimal.ensures c.used-d.ensures (used_adds _ _ _ _ _ c.put_bytes-2.ensures _ c.used.ensures)

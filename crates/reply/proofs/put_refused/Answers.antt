@@ -1,0 +1,6 @@
+-- `reply::put_refused` meets its contract.
+use borrow.Author.Rules.{rules}
+use Rattle.reply.proofs.put_refused.Goals as goal
+
+pub returns : goal.returns
+returns c = rw c.number.ensures at c.put_number.ensures

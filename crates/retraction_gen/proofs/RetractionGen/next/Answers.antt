@@ -1,0 +1,41 @@
+-- `retraction_gen::RetractionGen::next` meets its contract.
+use mathlib.Core.Path.{◌≡◌, sym, ap, ◌∙◌}
+use mathlib.Core.Bool.{Bool, cond}
+use borrow.Author.Rules.{rules}
+use borrow.Author.Tests.{not-true, not-false}
+use Rattle.retraction_gen.specs.declared.Turned.{Turned}
+use Rattle.retraction_gen.specs.declared.Turn.TheVariants.{Again}
+use Rattle.retraction_gen.specs.Cursors.{retraction_said, end_said, back, step_of, next_of, fuel, turn_of}
+use Rattle.retraction_gen.proofs.Stepping.{steps}
+use Rattle.retraction_gen.proofs.Going.{again_less, step_again, step_found, step_over}
+use Rattle.retraction_gen.proofs.RetractionGen.next.Goals as goal
+
+-- what a turn that goes on says of the turn's definition
+again : (c : tie.After-enum-told invariant-loop decreases-loop) → (turn_of c.before.before.before.before.loop.self).turn ≡ Again
+again c = ap (λ (t : Turned). t.turn) (sym c.before.before.before.one-turn.ensures) ∙ c.enum_told.given.1
+
+pub returns-then-not-well_formed : goal.returns-then-not-well_formed
+returns-then-not-well_formed c = steps _ _ _ (rw (← c.well-formed-2.ensures, not-true c.well-formed-2.result c.if-not-well_formed.true))
+
+pub loop-r-init : goal.loop-r-init
+loop-r-init c =
+    let g = c.args.self in
+    ap (λ (t : Bool). cond t (step_of g) (back g end_said)) (sym c.well-formed-2.ensures ∙ not-false _ c.if-not-well_formed.false)
+
+pub loop-r-smaller : goal.loop-r-smaller
+loop-r-smaller c = rw c.one_turn-t.ensures (again_less _ (again c))
+
+pub loop-r-preserved : goal.loop-r-preserved
+loop-r-preserved c = c.loop-r.invariant ∙ rw c.one_turn-t.ensures (step_again _ (again c))
+
+pub returns-in-Found : goal.returns-in-Found
+returns-in-Found c =
+    steps _ _ _ (c.loop-r.invariant
+    ∙ step_found _ _ (ap (λ (t : Turned). t.turn) (sym c.one_turn-t.ensures) ∙ c.in-Found.is)
+    ∙ ap (λ (t : Turned). back t.cursor (retraction_said c.in-Found.r)) (sym c.one_turn-t.ensures))
+
+pub returns-in-Over : goal.returns-in-Over
+returns-in-Over c =
+    steps _ _ _ (c.loop-r.invariant
+    ∙ step_over _ (ap (λ (t : Turned). t.turn) (sym c.one_turn-t.ensures) ∙ c.in-Over.is)
+    ∙ ap (λ (t : Turned). back t.cursor end_said) (sym c.one_turn-t.ensures))

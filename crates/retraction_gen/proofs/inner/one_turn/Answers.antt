@@ -1,0 +1,36 @@
+-- `retraction_gen::inner::one_turn` meets its contract.
+use mathlib.Core.Path.{◌≡◌, sym, ◌∙◌}
+use mathlib.Core.Bool.{true}
+use native.Mathlib.Omega.{arith}
+use borrow.Author.Tests.{lt-ltb, le-ltb, not-true, not-false}
+use borrow.Author.Rules.{rules}
+use Rattle.retraction_gen.specs.Cursors.{on_entry, turn_of}
+use Rattle.retraction_gen.proofs.Going.{on_index}
+use Rattle.retraction_gen.proofs.inner.one_turn.Goals as goal
+
+on : (c : tie.Else1) → on_entry c.before.before.args.t1 ≡ true
+on c = sym c.before.on-entry.ensures ∙ not-false _ c.if1.false
+
+pub returns-then-not-on_entry : goal.returns-then-not-on_entry
+unfolding turn_of
+returns-then-not-on_entry c = rw (← c.on_entry.ensures, not-true c.on_entry.result c.if-not-on_entry.true)
+
+pub offset_bounds-g-i : goal.offset_bounds-g-i
+offset_bounds-g-i c = omega (arith, on_index _ (on c))
+
+pub bounds-g-i : goal.bounds-g-i
+bounds-g-i c = on_index _ (on c)
+
+pub overflow_add-g2 : goal.overflow_add-g2
+overflow_add-g2 c = omega (arith, on_index _ (on c.before))
+
+pub returns-then-lowest-gt63 : goal.returns-then-lowest-gt63
+unfolding turn_of
+returns-then-lowest-gt63 c = rw (c.again.ensures, on c.before, ← c.lowest.ensures, lt-ltb _ _ c.if-lowest-gt63.true)
+
+pub turn_in-requires : goal.turn_in-requires
+turn_in-requires c = on_index _ (on c.before)
+
+pub returns : goal.returns
+unfolding turn_of
+returns c = rw (on c.before, ← c.lowest.ensures, le-ltb _ _ c.if-lowest-gt63.false, c.turn_in.ensures)

@@ -1,0 +1,9 @@
+-- `retraction_gen::inner::refused` meets its contract.
+use mathlib.Core.Path.{refl}
+use borrow.Author.Rules.{rules}
+use Rattle.retraction_gen.specs.Making.{no_cursor}
+use Rattle.retraction_gen.proofs.inner.refused.Goals as goal
+
+pub returns : goal.returns
+unfolding no_cursor
+returns c = (refl, rw (c.started.ensures, c.overfull-none.ensures))

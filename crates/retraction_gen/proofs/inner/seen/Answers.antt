@@ -1,0 +1,6 @@
+-- `retraction_gen::inner::seen` meets its contract.
+use borrow.Author.Rules.{rules}
+use Rattle.retraction_gen.proofs.inner.seen.Goals as goal
+
+pub returns : goal.returns
+returns c = rw (c.look.ensures, c.position_of.ensures)

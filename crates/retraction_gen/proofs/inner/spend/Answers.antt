@@ -1,0 +1,8 @@
+-- `retraction_gen::inner::spend` meets its contract.
+use borrow.Author.Rules.{rules}
+use Rattle.retraction_gen.specs.Cursors.{spent}
+use Rattle.retraction_gen.proofs.inner.spend.Goals as goal
+
+pub returns : goal.returns
+unfolding spent
+returns c = rw (c.without-rest.ensures, c.lowest.ensures)

@@ -1,0 +1,8 @@
+-- `rows::inner::is_marked` meets its contract.
+use borrow.Author.Rules.{rules}
+use Rattle.rows.specs.inner.Marked.{marked}
+use Rattle.rows.proofs.inner.is_marked.Goals as goal
+
+pub returns : goal.returns
+unfolding marked
+returns c = c.has.ensures

@@ -1,0 +1,15 @@
+-- `screen::inner::before` meets its contract.
+use mathlib.Core.Path.{sym, ◌∙◌}
+use borrow.Author.Rules.{rules}
+use Rattle.board.proofs.Moving.{unmake_number}
+use Rattle.screen.proofs.Screened.{taken, left}
+use Rattle.screen.proofs.inner.before.Goals as goal
+
+pub unmade-requires : goal.unmade-requires
+unmade-requires c = (c.requires, sym c.unmake_gate-v.ensures ∙ c.in-Accepted.is)
+
+pub returns-in-Accepted : goal.returns-in-Accepted
+returns-in-Accepted c = c.unmade.ensures ∙ taken _ _ c.args.b _ (unmake_number _ _) (sym c.unmake_gate-v.ensures ∙ c.in-Accepted.is)
+
+pub returns-in-Refused : goal.returns-in-Refused
+returns-in-Refused c = left _ _ c.args.b _ (unmake_number _ _) _ (sym c.unmake_gate-v.ensures ∙ c.in-Refused.is)

@@ -1,0 +1,9 @@
+-- `sliding::inner::get_bishop_moves` meets its contract.
+use Rattle.std.proofs.Common.{rules}
+use Rattle.sliding.proofs.Seeing.{bishop_is}
+use Rattle.sliding.proofs.inner.get_bishop_moves.Goals as goal
+
+pub returns : goal.returns
+returns c =
+    let s = c.before in
+    rw (c.upright.ensures, c.upright-2.ensures, c.rising.ensures, c.falling.ensures) (bishop_is s.args.occ s.args.sq s.requires)

@@ -1,0 +1,9 @@
+-- `sliding::inner::get_rook_moves` meets its contract.
+use Rattle.std.proofs.Common.{rules}
+use Rattle.sliding.proofs.Seeing.{rook_is}
+use Rattle.sliding.proofs.inner.get_rook_moves.Goals as goal
+
+pub returns : goal.returns
+returns c =
+    let s = c.before in
+    rw (c.sideways.ensures, c.upright.ensures, c.get_rank.ensures, c.get_file.ensures) (rook_is s.args.occ s.args.sq s.requires)

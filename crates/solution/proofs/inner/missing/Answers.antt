@@ -1,0 +1,47 @@
+-- `solution::inner::missing` meets its contract.
+use mathlib.Core.Path.{sym, ◌∙◌}
+use Prim.Native.Nat.{◌-◌}
+use native.Mathlib.Omega.{arith}
+use Rattle.laws.specs.Boards.{pos_at}
+use Rattle.strict_search.specs.inner.Searching.{test_of}
+use Rattle.rows.specs.inner.Marked.{marked}
+use Rattle.solution.specs.inner.Marked.{AllMarked}
+use Rattle.squares.proofs.Testing.{granted}
+use Rattle.strict_search.proofs.Remaining.{inner}
+use Rattle.solution.proofs.Marking.{so_far, and_on, all_marked, lacks_here}
+use Rattle.solution.proofs.inner.missing.Goals as goal
+
+pub loop-i-init : goal.loop-i-init
+loop-i-init c = λ k l z. absurd (omega arith)
+
+pub next_from-j-requires : goal.next_from-j-requires
+next_from-j-requires c = (c.requires.0, c.requires.1, omega arith)
+
+pub returns-then-j-eq-PLACES : goal.returns-then-j-eq-PLACES
+returns-then-j-eq-PLACES c = all_marked _ _ (so_far _ _ _ _ c.next_from-j.ensures c.loop-i.invariant) c.if-j-eq-PLACES.true
+
+pub is_marked-requires : goal.is_marked-requires
+is_marked-requires c = inner _ _ _ c.next_from-j.ensures c.if-j-eq-PLACES.false
+
+pub candidate-requires : goal.candidate-requires
+candidate-requires c = omega (arith, inner _ _ _ c.next_from-j.ensures c.if-j-eq-PLACES.false)
+
+pub returns-then-not-is_marked : goal.returns-then-not-is_marked
+returns-then-not-is_marked c =
+    let d = c.before in
+    let l = inner _ _ _ d.next-from.ensures c.if-j-eq-PLACES.false in
+    lacks_here _ _ _ _ d.next-from.ensures d.before.before.loop.invariant l _ c.candidate.ensures _ c.is_marked.ensures c.if-not-is_marked.true
+
+pub overflow_add-i : goal.overflow_add-i
+overflow_add-i c = omega (arith, c.next_from-j.ensures.skips.most)
+
+pub loop-i-smaller : goal.loop-i-smaller
+loop-i-smaller c = omega (arith, c.next_from-j.ensures.skips.on)
+
+pub loop-i-preserved : goal.loop-i-preserved
+loop-i-preserved c =
+    let d = c.before in
+    and_on _ _ _ _ d.next-from.ensures d.before.before.loop.invariant (sym c.is_marked.ensures ∙ granted _ c.if-not-is_marked.false)
+
+pub returns : goal.returns
+returns c = λ k l z. c.loop-i.invariant k (omega (arith, l)) z

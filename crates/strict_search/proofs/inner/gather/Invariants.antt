@@ -1,0 +1,12 @@
+use Prim.Native.Nat.{◌-◌, ◌≤◌}
+use native.Mathlib.Omega.{arith}
+use borrow.Author.Rules.{rules}
+use Rattle.laws.specs.Boards.{pos_at}
+use Rattle.strict_search.proofs.Sourcing.{Gathered, gathered_none, gathered_more, gathered_le, gathered_all}
+use Rattle.strict_search.proofs.inner.gather.Given as goal
+
+abbrev pub invariant-loop-s : goal.invariant-loop-s
+invariant-loop-s l = (l.s ≤ 64) × Gathered (pos_at l.p) l.kept l.n l.s
+
+abbrev pub decreases-loop-s : goal.decreases-loop-s
+decreases-loop-s l = 64 - l.s

@@ -1,0 +1,7 @@
+-- `strict_search::inner::kept::keep` meets its contract.
+use borrow.Author.Rules.{rules}
+use Rattle.strict_search.proofs.Keeping.{keeps}
+use Rattle.strict_search.proofs.inner.kept.keep.Goals as goal
+
+pub returns : goal.returns
+returns c = keeps c.args.kept.now c.args.s c.args.w c.requires.0 c.requires.1

@@ -1,0 +1,14 @@
+-- `strict_test::inner::is_strict` meets its contract.
+use mathlib.Core.Path.{◌∙◌}
+use Rattle.strict_test.proofs.Earlier.{earlier_ready, strict_told, strict_refused}
+use borrow.Author.Rules.{rules}
+use Rattle.strict_test.proofs.inner.is_strict.Goals as goal
+
+pub earlier_ok-requires : goal.earlier_ok-requires
+earlier_ok-requires c = earlier_ready _ _ c.requires.1 _ c.unmake-u.ensures c.in-Accepted.is
+
+pub returns-in-Refused : goal.returns-in-Refused
+returns-in-Refused c = strict_refused _ _ c.requires.1 _ c.unmake-u.ensures _ c.in-Refused.is
+
+pub returns-in-Accepted : goal.returns-in-Accepted
+returns-in-Accepted c = c.earlier_ok.ensures ∙ strict_told _ _ c.requires.1 _ c.unmake-u.ensures c.in-Accepted.is

@@ -1,0 +1,25 @@
+-- `tables::between_table` meets its contract.
+use mathlib.Core.Path.{◌≡◌, refl}
+use mathlib.Core.Bool.{true}
+use mathlib.Core.List.{List}
+use Prim.Native.Nat.{ℕ}
+use Rattle.squares.specs.Tests.{◌and◌, ◌or◌}
+use Rattle.squares.specs.Squares.{up_to}
+use Rattle.geometry.specs.Lines.{between_of, between, same_rank, same_file, same_diagonal}
+use Rattle.tables.proofs.Entries.{follows}
+use Rattle.tables.proofs.BetweenRule.{entry_of, rule}
+use Rattle.tables.proofs.between_table.Reads as reads
+use Rattle.tables.proofs.between_table.Lts as lts
+use Rattle.tables.proofs.between_table.Goals as goal
+
+-- the list that the function returns: the constant
+table : tie.Start → List ℕ
+table c = (lts.m2 reads.Pre reads.Post c.args).0
+
+follow : (c : tie.Start) → follows entry_of (table c) ≡ true
+unfolding between_of between same_rank same_file same_diagonal up_to entry_of table ◌and◌ ◌or◌
+follow c = refl
+
+pub returns : goal.returns
+unfolding table
+returns c = rule (table c) (follow c) refl

@@ -1,0 +1,6 @@
+-- `tables::inner::between` meets its contract.
+use borrow.Author.Rules.{rules}
+use Rattle.tables.proofs.inner.between.Goals as goal
+
+pub returns : goal.returns
+returns c = c.requires.0.entry c.args.a c.args.b c.requires.1 c.requires.2

@@ -1,0 +1,6 @@
+-- `text::inner::print` meets its contract.
+use borrow.Author.Rules.{rules}
+use Rattle.text.proofs.inner.print.Goals as goal
+
+pub returns : goal.returns
+returns c = rw (c.line_of-line.ensures.0.text, c.position_of.ensures) at c.copy.ensures

@@ -1,0 +1,9 @@
+-- `uncaptured::inner::kept` meets its contract.
+use borrow.Author.Rules.{rules}
+use Rattle.squares.specs.Tests.{◌and◌}
+use Rattle.uncaptured.specs.Masks.{kept_of}
+use Rattle.uncaptured.proofs.inner.kept.Goals as goal
+
+pub returns : goal.returns
+unfolding kept_of ◌and◌
+returns c = rw (c.choose.ensures, c.count-n.ensures)

@@ -1,0 +1,22 @@
+use mathlib.Core.Path.{◌≡◌}
+use native.Mathlib.Omega.{arith}
+use lib.ListN.{length}
+use Rattle.volume_add.proofs.Lengthening.{longer_in}
+use borrow.Author.Rules.{rules}
+use Rattle.volume_add.proofs.inner.write.Reads as reads
+use Rattle.volume_add.proofs.inner.write.Lts as lts
+use Rattle.output.proofs.inner.copy.Reads as copy-reads
+use Rattle.volume_add.proofs.inner.put_rows.Reads as put-rows-reads
+use Rattle.volume_body.proofs.inner.body_of.Reads as body-of-reads
+use Rattle.volume_contents.proofs.inner.head_of.Reads as head-of-reads
+use Rattle.volume_contents.proofs.inner.row_of.Reads as row-of-reads
+use Rattle.volume_make.proofs.inner.put.Reads as put_reads
+use Rattle.volume_add.proofs.inner.write.Goals as goal
+
+-- src/inner.rt:69:5
+pub put-requires-3 : goal.put-requires-3
+put-requires-3 c = let e : length c.copy.new.out ≡ length c.args.out.now = search rules in (omega (arith, c.body_of.ensures.1), omega (arith, c.body_of.ensures.1, c.requires.2))
+
+-- src/inner.rt:59:1
+pub returns : goal.returns
+returns c = longer_in c.args.v.now c.args.out.now _ _ _ _ _ c.args.n c.args.number c.args.board c.head_of.result c.row_of.result c.body_of.result c.requires.1 c.requires.2 c.head_of.ensures.0 c.put.ensures c.put_rows.ensures c.row_of.ensures.0 c.put-2.ensures c.copy.ensures c.body_of.ensures.0 c.put-3.ensures

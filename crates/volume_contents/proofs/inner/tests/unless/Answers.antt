@@ -1,0 +1,11 @@
+use Rattle.volume_contents.proofs.inner.tests.unless.Reads as reads
+use Rattle.volume_contents.proofs.inner.tests.unless.Lts as lts
+use Rattle.volume_contents.proofs.inner.tests.unless.Goals as goal
+
+-- src/inner/tests.rt:14:9
+pub returns-then-passes : goal.returns-then-passes
+returns-then-passes c = rw c.if-passes.true
+
+-- src/inner/tests.rt:10:1
+pub returns : goal.returns
+returns c = rw c.if-passes.false

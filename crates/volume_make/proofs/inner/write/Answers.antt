@@ -1,0 +1,17 @@
+use Rattle.volume_make.proofs.Bodies.{volume_in, sized_from}
+use borrow.Author.Rules.{rules}
+use Rattle.volume_make.proofs.inner.write.Reads as reads
+use Rattle.volume_make.proofs.inner.write.Lts as lts
+use Rattle.volume_contents.proofs.inner.head_of.Reads as head-of-reads
+use Rattle.volume_make.proofs.inner.put.Reads as put_reads
+use Rattle.volume_make.proofs.inner.put_bodies.Reads as put-bodies-reads
+use Rattle.volume_make.proofs.inner.put_rows.Reads as put-rows-reads
+use Rattle.volume_make.proofs.inner.write.Goals as goal
+
+-- src/inner.rt:56:5
+pub put_bodies-requires : goal.put_bodies-requires
+put_bodies-requires c = sized_from c.args.t.now c.args.out.now _ c.args.n c.requires.1 (search rules)
+
+-- src/inner.rt:50:1
+pub returns : goal.returns
+returns c = volume_in c.args.t.now c.args.out.now _ _ _ c.args.n c.head_of.result c.requires.1 c.head_of.ensures.0 c.put.ensures c.put_rows.ensures c.put_bodies.ensures

@@ -1,0 +1,9 @@
+-- `volume_verb::inner::bytes::put_front` meets its contract.
+use mathlib.Core.Path.{sym}
+use native.Mathlib.Omega.{arith}
+use lib.Seq.{length-take-le}
+use borrow.Author.Rules.{rules}
+use Rattle.volume_verb.proofs.inner.bytes.put_front.Goals as goal
+
+pub MISSING-slice-aggregate-put-2 : goal.MISSING-slice-aggregate-put-2
+MISSING-slice-aggregate-put-2 c = sym (length-take-le _ _ (omega arith))

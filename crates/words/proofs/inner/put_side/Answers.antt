@@ -1,0 +1,12 @@
+-- `words::inner::put_side` meets its contract.
+use borrow.Author.Rules.{rules}
+use Rattle.words.specs.Words.{bytes_in}
+use Rattle.words.proofs.inner.put_side.Goals as goal
+
+pub returns-in-White : goal.returns-in-White
+unfolding bytes_in
+returns-in-White c = rw c.enum_told-1.given.1 c.put.ensures
+
+pub returns-in-Black : goal.returns-in-Black
+unfolding bytes_in
+returns-in-Black c = rw c.enum_told-in-Black-1.given.1 c.put-in-Black.ensures
