@@ -39,7 +39,7 @@ loop-i-smaller c = omega (arith, c.next_from-j.ensures.skips.on)
 
 pub loop-i-preserved : goal.loop-i-preserved
 loop-i-preserved c =
-    and_on _ _ _ _ c.next_from-j.ensures c.loop-i.invariant (sym c.is_marked.ensures ∙ granted _ c.if-not-is_marked.false)
+    and_on _ _ _ _ c.next_from-j.ensures c.loop-i.invariant (sym c.is_marked.ensures ∙ c.if-not-is_marked.false)
 
 pub returns : goal.returns
 returns c = λ k l z. c.loop-i.invariant k (omega (arith, l)) z
