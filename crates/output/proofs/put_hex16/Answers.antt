@@ -4,4 +4,4 @@ use Rattle.output.proofs.Added.{puts_digits, sixteen}
 use Rattle.output.proofs.put_hex16.Goals as goal
 
 pub returns : goal.returns
-returns c = puts_digits _ _ 16 _ _ c.hex-k.result 16 _ _ c.put_bytes.ensures c.hex-k.ensures.1.1 (sixteen c.args.x c.hex-k.result c.ranges.x.fits c.hex-k.ensures.1.0)
+returns c = puts_digits _ _ 16 _ _ c.hex-k.result 16 _ _ c.put_bytes.ensures c.hex-k.ensures.digits (sixteen c.args.x c.hex-k.result c.ranges.x.fits c.hex-k.ensures.len)

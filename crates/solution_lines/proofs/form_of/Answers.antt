@@ -18,42 +18,33 @@ find-stop-requires c = (omega arith, omega arith)
 pub slice_bounds-is_formed-count : goal.slice_bounds-is_formed-count
 slice_bounds-is_formed-count c = omega (arith, c.find-stop.ensures.1)
 
-pub MISSING-slice-bounds-is-formed-start : goal.MISSING-slice-bounds-is-formed-start
-MISSING-slice-bounds-is-formed-start c = omega (arith, c.find.ensures.1)
+pub slice_bounds-is_formed-start : goal.slice_bounds-is_formed-start
+slice_bounds-is_formed-start c = omega (arith, c.find-stop.ensures.1)
 
-pub MISSING-slice-bounds-is-formed-end : goal.MISSING-slice-bounds-is-formed-end
-MISSING-slice-bounds-is-formed-end c = omega (arith, c.find.ensures.1, c.find.ensures.2)
+pub slice_bounds-is_formed-end : goal.slice_bounds-is_formed-end
+slice_bounds-is_formed-end c = omega (arith, c.find-stop.ensures.1, c.find-stop.ensures.2)
 
 pub returns-then-not-is_formed : goal.returns-then-not-is_formed
 returns-then-not-is_formed c =
-    let f = c.before in
-    let l = f.before.before in
-    tells_line l.before.before.args.lines.now l.loop.at l.loop.n l.loop.invariant.2 f.before.loop-test.true f.find.result f.find.ensures.0 c.is_formed.result c.is_formed.ensures c.if-not-is_formed.true l.loop.invariant.1
+    tells_line c.args.lines.now c.loop-at.at c.loop-at.n c.loop-at.invariant.2 c.loop-at-test.true c.find-stop.result c.find-stop.ensures.0 c.is_formed.result c.is_formed.ensures c.if-not-is_formed.true c.loop-at.invariant.1
 
 pub returns-then-n-ge-MOST_LINES : goal.returns-then-n-ge-MOST_LINES
 returns-then-n-ge-MOST_LINES c =
-    let i = c.before in
-    let f = i.before.before in
-    let l = f.before.before in
-    tells_many l.before.before.args.lines.now l.loop.at l.loop.n l.loop.invariant.2 f.before.loop-test.true f.find.result f.find.ensures.0 i.is-formed.result i.is-formed.ensures c.if-not-is_formed.false c.if-n-ge-MOST_LINES.true
+    tells_many c.args.lines.now c.loop-at.at c.loop-at.n c.loop-at.invariant.2 c.loop-at-test.true c.find-stop.result c.find-stop.ensures.0 c.is_formed.result c.is_formed.ensures c.if-not-is_formed.false c.if-n-ge-MOST_LINES.true
 
 pub past-at-requires : goal.past-at-requires
 past-at-requires c = c.find-stop.ensures.2
 
 pub loop-at-smaller : goal.loop-at-smaller
 loop-at-smaller c =
-    let f = c.before in
-    let l = f.before.before in
-    omega (arith, next_on l.before.before.args.lines.now l.loop.at f.before.loop-test.true f.find.result f.find.ensures.0 c.past-at.result c.past-at.ensures.0)
+    omega (arith, next_on c.args.lines.now c.loop-at.at c.loop-at-test.true c.find-stop.result c.find-stop.ensures.0 c.past-at.result c.past-at.ensures.0)
 
 pub loop-at-preserved : goal.loop-at-preserved
 loop-at-preserved c =
-    let i = c.before in
-    let f = i.before.before in
-    let l = f.before.before in (
+    (
       c.past-at.ensures.1,
       omega (arith, c.if-n-ge-MOST_LINES.false),
-      goes_on l.before.before.args.lines.now l.loop.at l.loop.n l.loop.invariant.2 f.before.loop-test.true f.find.result f.find.ensures.0 i.is-formed.result i.is-formed.ensures c.if-not-is_formed.false c.past-at.result c.past-at.ensures.0,
+      goes_on c.args.lines.now c.loop-at.at c.loop-at.n c.loop-at.invariant.2 c.loop-at-test.true c.find-stop.result c.find-stop.ensures.0 c.is_formed.result c.is_formed.ensures c.if-not-is_formed.false c.past-at.result c.past-at.ensures.0,
     )
 
 pub returns : goal.returns

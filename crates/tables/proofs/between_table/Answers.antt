@@ -12,14 +12,7 @@ use Rattle.tables.proofs.between_table.Reads as reads
 use Rattle.tables.proofs.between_table.Lts as lts
 use Rattle.tables.proofs.between_table.Goals as goal
 
--- the list that the function returns: the constant
-table : tie.Start → List ℕ
-table c = (lts.m2 reads.Pre reads.Post c.args).0
-
-follow : (c : tie.Start) → follows entry_of (table c) ≡ true
-unfolding between_of between same_rank same_file same_diagonal up_to entry_of table ◌and◌ ◌or◌
-follow c = refl
-
+-- the list that the function returns is the constant, whose entries are computed
 pub returns : goal.returns
-unfolding table
-returns c = rule (table c) (follow c) refl
+unfolding between_of between same_rank same_file same_diagonal up_to entry_of ◌and◌ ◌or◌
+returns c = rule (lts.m2 reads.Pre reads.Post c.args).0 refl refl

@@ -28,4 +28,4 @@ returns-in-4 c = c.xor-in-4.ensures ∙ rw c.in-4.is
 
 pub returns-in_default : goal.returns-in_default
 unfolding uncaptured_of
-returns-in_default c = let a = c.args in let n = c.in_default.rest in c.xor-in_default.ensures ∙ ap (λ (x : Man). uncaptured_of a.b x a.bb) (queen_numbered a.turn a.kind n.0.0.0.0.1 n.0.0.0.1 n.0.0.1 n.0.1 n.1)
+returns-in_default c = let a = c.args in let n = c.in_default.in_default-own.rest in c.xor-in_default.ensures ∙ ap (λ (x : Man). uncaptured_of a.b x a.bb) (queen_numbered a.turn a.kind n.0.0.0.0.1 n.0.0.0.1 n.0.0.1 n.0.1 n.1)

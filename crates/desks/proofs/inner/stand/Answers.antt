@@ -13,18 +13,18 @@ returns-then-desk-gt1 c = rw (lt-ltb _ _ c.if-desk-gt1.true)
 
 pub returns-then-not-has_fit : goal.returns-then-not-has_fit
 unfolding stand_of
-returns-then-not-has_fit c = rw (le-ltb _ _ c.if-desk-gt1.false, ← c.has_fit.ensures, not-true c.has_fit.result c.if-not-has_fit.true)
+returns-then-not-has_fit c = rw (le-ltb _ _ c.if-desk-gt1.false, ← c.has_fit.ensures, c.if-not-has_fit.true)
 
 pub bounds-table-0 : goal.bounds-table-0
-bounds-table-0 c = omega (arith, (fit_room c.args.table.now (sym c.has_fit.ensures ∙ not-false _ c.if-not-has_fit.false)).0)
+bounds-table-0 c = omega (arith, (fit_room c.args.table.now (sym c.has_fit.ensures ∙ c.if-not-has_fit.false)).0)
 
 pub returns-then-desk-eq0 : goal.returns-then-desk-eq0
 unfolding stand_of
-returns-then-desk-eq0 c = rw (le-ltb _ _ c.if-desk-gt1.false, ← c.has_fit.ensures, not-false c.has_fit.result c.if-not-has_fit.false, c.if-desk-eq0.true)
+returns-then-desk-eq0 c = rw (le-ltb _ _ c.if-desk-gt1.false, ← c.has_fit.ensures, c.if-not-has_fit.false, c.if-desk-eq0.true)
 
 pub bounds-table-1 : goal.bounds-table-1
-bounds-table-1 c = omega (arith, (fit_room c.args.table.now (sym c.has_fit.ensures ∙ not-false _ c.if-not-has_fit.false)).0)
+bounds-table-1 c = omega (arith, (fit_room c.args.table.now (sym c.has_fit.ensures ∙ c.if-not-has_fit.false)).0)
 
 pub returns : goal.returns
 unfolding stand_of
-returns c = let one : c.args.desk ≡ 1 = omega (arith, c.if-desk-eq0.false) in rw (le-ltb _ _ c.if-desk-gt1.false, ← c.has_fit.ensures, not-false c.has_fit.result c.if-not-has_fit.false, one)
+returns c = let one : c.args.desk ≡ 1 = omega (arith, c.if-desk-eq0.false) in rw (le-ltb _ _ c.if-desk-gt1.false, ← c.has_fit.ensures, c.if-not-has_fit.false, one)

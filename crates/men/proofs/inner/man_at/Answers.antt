@@ -11,4 +11,4 @@ pub man_by-requires : goal.man_by-requires
 man_by-requires c = c.kind_by-kind.ensures.1
 
 pub returns : goal.returns
-returns c = (c.man_by.ensures.0 ∙ rw (c.kind_by-kind.ensures.0, c.has.ensures, c.has-2.ensures, c.has-3.ensures, c.has-4.ensures, c.has-5.ensures, c.has-6.ensures, c.has-7.ensures) (man_at_is c.args.t1 c.args.t2 c.args.sq (λ i. let f : Fits w64 (get_or c.args.t2 i 0) = search rules in f.fits)), c.man_by.ensures.1)
+returns c = (c.man_by.ensures.0 ∙ rw (c.kind_by-kind.ensures.0, c.has.ensures, c.has-2.ensures, c.has-3.ensures, c.has-4.ensures, c.has-5.ensures, c.has-6.ensures, c.has-7.ensures) (man_at_is c.args.pieces c.args.colors c.args.sq (λ i. let f : Fits w64 (get_or c.args.colors i 0) = search rules in f.fits)), c.man_by.ensures.1)

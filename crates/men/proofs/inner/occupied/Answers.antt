@@ -4,4 +4,4 @@ use Rattle.men.proofs.Having.{union_is}
 use Rattle.men.proofs.inner.occupied.Goals as goal
 
 pub returns : goal.returns
-returns c = union_is c.args.pieces c.args.t2 c.requires
+returns c = union_is c.args.pieces c.args.colors c.requires

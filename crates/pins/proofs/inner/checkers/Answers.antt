@@ -7,4 +7,4 @@ pub attackers-requires : goal.attackers-requires
 attackers-requires c = (c.requires.0, c.king_square-q.ensures.here)
 
 pub returns : goal.returns
-returns c = rw (c.attackers.ensures, c.other-d.ensures) (checkers_is c.args.t1 c.args.colors c.args.color c.king_square-q.result c.requires.0 c.king_square-q.ensures)
+returns c = rw (c.attackers.ensures, c.other-d.ensures) (checkers_is c.args.pieces c.args.colors c.args.color c.king_square-q.result c.requires.0 c.king_square-q.ensures)

@@ -12,7 +12,7 @@ pub loop-i-init : goal.loop-i-init
 loop-i-init c = (omega arith, refl, refl)
 
 pub loop-i-preserved : goal.loop-i-preserved
-loop-i-preserved c = (omega arith, rw c.loop-i.invariant.1 (copy_more c.args.t1 c.args.out.now c.loop-i.i (search rules) (omega arith)), simp length-set c.loop-i.invariant.2)
+loop-i-preserved c = (omega arith, rw c.loop-i.invariant.1 (copy_more c.args.bytes c.args.out.now c.loop-i.i (search rules) (omega arith)), simp length-set c.loop-i.invariant.2)
 
 pub shape_of-out : goal.shape_of-out
 shape_of-out c = c.loop-i.invariant.2

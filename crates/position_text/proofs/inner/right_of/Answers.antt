@@ -22,4 +22,4 @@ returns-in-113 c = (rw c.in-113.is, omega arith)
 
 pub returns-in_default : goal.returns-in_default
 unfolding right_of
-returns-in_default c = (simp (ne_eqb _ _ c.in_default.rest.0.0.0.1, ne_eqb _ _ c.in_default.rest.0.0.1, ne_eqb _ _ c.in_default.rest.0.1, ne_eqb _ _ c.in_default.rest.1), omega arith)
+returns-in_default c = (simp (ne_eqb _ _ c.in_default.in_default-own.rest.0.0.0.1, ne_eqb _ _ c.in_default.in_default-own.rest.0.0.1, ne_eqb _ _ c.in_default.in_default-own.rest.0.1, ne_eqb _ _ c.in_default.in_default-own.rest.1), omega arith)

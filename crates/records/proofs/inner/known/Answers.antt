@@ -6,7 +6,7 @@ use borrow.Author.Rules.{rules}
 use Rattle.records.proofs.inner.known.Goals as goal
 
 pub returns-then-not-is_known : goal.returns-then-not-is_known
-returns-then-not-is_known c = c.no_record.ensures ∙ not_known c.args.p c.args.half c.args.full (sym c.is_known.ensures ∙ not-true _ c.if-not-is_known.true)
+returns-then-not-is_known c = c.no_record.ensures ∙ not_known c.args.p c.args.half c.args.full (sym c.is_known.ensures ∙ c.if-not-is_known.true)
 
 pub returns : goal.returns
-returns c = c.ranged.ensures ∙ is_known_lem c.args.p c.args.half c.args.full (sym c.is_known.ensures ∙ not-false _ c.if-not-is_known.false)
+returns c = c.ranged.ensures ∙ is_known_lem c.args.p c.args.half c.args.full (sym c.is_known.ensures ∙ c.if-not-is_known.false)

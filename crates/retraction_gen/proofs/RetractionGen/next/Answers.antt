@@ -15,12 +15,12 @@ again : (c : tie.After-enum-told invariant-loop decreases-loop) → (turn_of c.b
 again c = ap (λ (t : Turned). t.turn) (sym c.before.before.before.one-turn.ensures) ∙ c.enum_told.given.1
 
 pub returns-then-not-well_formed : goal.returns-then-not-well_formed
-returns-then-not-well_formed c = steps _ _ _ (rw (← c.well-formed-2.ensures, not-true c.well-formed-2.result c.if-not-well_formed.true))
+returns-then-not-well_formed c = steps _ _ _ (rw (← c.well-formed-2.ensures, c.if-not-well_formed.true))
 
 pub loop-r-init : goal.loop-r-init
 loop-r-init c =
     let g = c.args.self in
-    ap (λ (t : Bool). cond t (step_of g) (back g end_said)) (sym c.well-formed-2.ensures ∙ not-false _ c.if-not-well_formed.false)
+    ap (λ (t : Bool). cond t (step_of g) (back g end_said)) (sym c.well-formed-2.ensures ∙ c.if-not-well_formed.false)
 
 pub loop-r-smaller : goal.loop-r-smaller
 loop-r-smaller c = rw c.one_turn-t.ensures (again_less _ (again c))

@@ -9,11 +9,11 @@ use Rattle.retraction_gen.proofs.Going.{on_index}
 use Rattle.retraction_gen.proofs.inner.one_turn.Goals as goal
 
 on : (c : tie.Else1) → on_entry c.before.before.args.t1 ≡ true
-on c = sym c.before.on-entry.ensures ∙ not-false _ c.if1.false
+on c = sym c.before.on-entry.ensures ∙ c.if1.false
 
 pub returns-then-not-on_entry : goal.returns-then-not-on_entry
 unfolding turn_of
-returns-then-not-on_entry c = rw (← c.on_entry.ensures, not-true c.on_entry.result c.if-not-on_entry.true)
+returns-then-not-on_entry c = rw (← c.on_entry.ensures, c.if-not-on_entry.true)
 
 pub offset_bounds-g-i : goal.offset_bounds-g-i
 offset_bounds-g-i c = omega (arith, on_index _ (on c))

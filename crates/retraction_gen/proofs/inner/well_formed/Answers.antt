@@ -25,10 +25,10 @@ unfolding well_formed ◌and◌
 returns-then-g-i-gt63 c = rw (le-leb _ _ c.if-len-gt47.false, sound_bad _ _ _ c.loop-i-test.true c.if-g-i-gt63.true)
 
 pub loop-i-preserved : goal.loop-i-preserved
-loop-i-preserved c = (omega arith, sound_more c.args.t1.entries c.loop-i.i c.loop-i.invariant.1 (suc-le-suc c.if-g-i-gt63.false))
+loop-i-preserved c = (omega arith, sound_more c.args.g.entries c.loop-i.i c.loop-i.invariant.1 (suc-le-suc c.if-g-i-gt63.false))
 
 pub returns : goal.returns
 unfolding well_formed ◌and◌
 returns c =
-    let e : c.loop-i.i ≡ c.args.t1.len = omega arith in
+    let e : c.loop-i.i ≡ c.args.g.len = omega arith in
     rw (le-leb _ _ c.if-len-gt47.false) (sym (rw e at c.loop-i.invariant.1))

@@ -5,5 +5,4 @@ use Rattle.sliding.proofs.inner.get_bishop_moves.Goals as goal
 
 pub returns : goal.returns
 returns c =
-    let s = c.before in
-    rw (c.upright.ensures, c.upright-2.ensures, c.rising.ensures, c.falling.ensures) (bishop_is s.args.occ s.args.sq s.requires)
+    rw (c.upright.ensures, c.upright-2.ensures, c.rising.ensures, c.falling.ensures) (bishop_is c.args.occ c.args.sq c.requires)

@@ -5,5 +5,4 @@ use Rattle.sliding.proofs.inner.get_rook_moves.Goals as goal
 
 pub returns : goal.returns
 returns c =
-    let s = c.before in
-    rw (c.sideways.ensures, c.upright.ensures, c.get_rank.ensures, c.get_file.ensures) (rook_is s.args.occ s.args.sq s.requires)
+    rw (c.sideways.ensures, c.upright.ensures, c.get_rank.ensures, c.get_file.ensures) (rook_is c.args.occ c.args.sq c.requires)

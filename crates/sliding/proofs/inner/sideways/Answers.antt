@@ -7,6 +7,5 @@ use Rattle.sliding.proofs.inner.sideways.Goals as goal
 
 pub returns : goal.returns
 returns c =
-    let s = c.before in
     rw (c.above-right.ensures, c.mirror-left.ensures, c.above.ensures)
-    (seen_is mirrored (λ k l. omega arith) s.args.sq (bit_and s.args.occ s.args.m) c.mirror-turned.result s.args.m (search rules) c.mirror-turned.ensures)
+    (seen_is mirrored (λ k l. omega arith) c.args.sq (bit_and c.args.occ c.args.m) c.mirror-turned.result c.args.m (search rules) c.mirror-turned.ensures)

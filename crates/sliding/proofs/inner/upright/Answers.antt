@@ -10,6 +10,5 @@ above-requires c = flipped_lt c.args.sq c.requires
 
 pub returns : goal.returns
 returns c =
-    let s = c.before in
     rw (c.above-up.ensures, c.flip-down.ensures, c.above.ensures)
-    (seen_is flipped flipped_lt s.args.sq (bit_and s.args.occ s.args.m) c.flip-turned.result s.args.m (search rules) c.flip-turned.ensures)
+    (seen_is flipped flipped_lt c.args.sq (bit_and c.args.occ c.args.m) c.flip-turned.result c.args.m (search rules) c.flip-turned.ensures)

@@ -28,9 +28,8 @@ candidate-requires c = omega (arith, inner _ _ _ c.next_from-j.ensures c.if-j-eq
 
 pub returns-then-not-is_marked : goal.returns-then-not-is_marked
 returns-then-not-is_marked c =
-    let d = c.before in
-    let l = inner _ _ _ d.next-from.ensures c.if-j-eq-PLACES.false in
-    lacks_here _ _ _ _ d.next-from.ensures d.before.before.loop.invariant l _ c.candidate.ensures _ c.is_marked.ensures c.if-not-is_marked.true
+    let l = inner _ _ _ c.next_from-j.ensures c.if-j-eq-PLACES.false in
+    lacks_here _ _ _ _ c.next_from-j.ensures c.loop-i.invariant l _ c.candidate.ensures _ c.is_marked.ensures c.if-not-is_marked.true
 
 pub overflow_add-i : goal.overflow_add-i
 overflow_add-i c = omega (arith, c.next_from-j.ensures.skips.most)
@@ -40,8 +39,7 @@ loop-i-smaller c = omega (arith, c.next_from-j.ensures.skips.on)
 
 pub loop-i-preserved : goal.loop-i-preserved
 loop-i-preserved c =
-    let d = c.before in
-    and_on _ _ _ _ d.next-from.ensures d.before.before.loop.invariant (sym c.is_marked.ensures ∙ granted _ c.if-not-is_marked.false)
+    and_on _ _ _ _ c.next_from-j.ensures c.loop-i.invariant (sym c.is_marked.ensures ∙ c.if-not-is_marked.false)
 
 pub returns : goal.returns
 returns c = λ k l z. c.loop-i.invariant k (omega (arith, l)) z

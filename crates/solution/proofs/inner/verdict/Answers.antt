@@ -19,52 +19,40 @@ find-stop-requires c = (omega arith, omega arith)
 pub slice_bounds-read_line-count : goal.slice_bounds-read_line-count
 slice_bounds-read_line-count c = omega (arith, c.find-stop.ensures.1)
 
-pub MISSING-slice-bounds-read-line-start : goal.MISSING-slice-bounds-read-line-start
-MISSING-slice-bounds-read-line-start c = omega (arith, c.find.ensures.1)
+pub slice_bounds-read_line-start : goal.slice_bounds-read_line-start
+slice_bounds-read_line-start c = omega (arith, c.find-stop.ensures.1)
 
-pub MISSING-slice-bounds-read-line-end : goal.MISSING-slice-bounds-read-line-end
-MISSING-slice-bounds-read-line-end c = omega (arith, c.find.ensures.1, c.find.ensures.2)
+pub slice_bounds-read_line-end : goal.slice_bounds-read_line-end
+slice_bounds-read_line-end c = omega (arith, c.find-stop.ensures.1, c.find-stop.ensures.2)
 
 pub place_of-i-requires : goal.place_of-i-requires
 place_of-i-requires c = c.read_line-r.ensures.1
 
 pub is_right-requires : goal.is_right-requires
 is_right-requires c =
-    let l = c.before in
-    (l.before.before.requires.0, c.place_of-i.ensures.1)
+    (c.requires.0, c.place_of-i.ensures.1)
 
 pub returns-then-not-is_right : goal.returns-then-not-is_right
 returns-then-not-is_right c =
-    let i = c.before in
-    let r = i.before in
-    let a = r.before.before in
-    let l = a.before.before in
-    tells_wrong (pos_at l.before.before.args.p) l.before.before.args.lines.now l.loop.seen l.loop.at l.loop.n l.loop.invariant.2 l.before.before.requires.1 a.before.loop-test.true a.find.result a.find.ensures.0 r.read-line.result r.read-line.ensures i.place_of.result i.place_of.ensures.0 c.is_right.result c.is_right.ensures c.if-not-is_right.true
+    tells_wrong (pos_at c.args.p) c.args.lines.now c.loop-at.seen c.loop-at.at c.loop-at.n c.loop-at.invariant.2 c.requires.1 c.loop-at-test.true c.find-stop.result c.find-stop.ensures.0 c.read_line-r.result c.read_line-r.ensures c.place_of-i.result c.place_of-i.ensures.0 c.is_right.result c.is_right.ensures c.if-not-is_right.true
 
 pub mark-requires : goal.mark-requires
 mark-requires c =
-    let i = c.before in
-    (i.place_of.ensures.1, i.before.before.before.before.before.loop.invariant.2.seen.long)
+    (c.place_of-i.ensures.1, c.loop-at.invariant.2.seen.long)
 
 pub past-at-requires : goal.past-at-requires
 past-at-requires c = c.find-stop.ensures.2
 
 pub loop-at-smaller : goal.loop-at-smaller
 loop-at-smaller c =
-    let a = c.before in
-    let l = a.before.before in
-    omega (arith, next_on l.before.before.args.lines.now l.loop.at a.before.loop-test.true a.find.result a.find.ensures.0 c.past-at.result c.past-at.ensures.0)
+    omega (arith, next_on c.args.lines.now c.loop-at.at c.loop-at-test.true c.find-stop.result c.find-stop.ensures.0 c.past-at.result c.past-at.ensures.0)
 
 pub loop-at-preserved : goal.loop-at-preserved
 loop-at-preserved c =
-    let t = c.before in
-    let i = t.before.before in
-    let r = i.before in
-    let a = r.before.before in
-    let l = a.before.before in (
+    (
       c.past-at.ensures.1,
-      omega (arith, l.loop.invariant.1, next_on l.before.before.args.lines.now l.loop.at a.before.loop-test.true a.find.result a.find.ensures.0 c.past-at.result c.past-at.ensures.0),
-      goes_on (pos_at l.before.before.args.p) l.before.before.args.lines.now l.loop.seen l.loop.at l.loop.n l.loop.invariant.2 l.before.before.requires.1 a.before.loop-test.true a.find.result a.find.ensures.0 r.read-line.result r.read-line.ensures i.place_of.result i.place_of.ensures.0 t.is_right.result t.is_right.ensures c.if-not-is_right.false c.past-at.result c.past-at.ensures.0 _ c.mark.ensures,
+      omega (arith, c.loop-at.invariant.1, next_on c.args.lines.now c.loop-at.at c.loop-at-test.true c.find-stop.result c.find-stop.ensures.0 c.past-at.result c.past-at.ensures.0),
+      goes_on (pos_at c.args.p) c.args.lines.now c.loop-at.seen c.loop-at.at c.loop-at.n c.loop-at.invariant.2 c.requires.1 c.loop-at-test.true c.find-stop.result c.find-stop.ensures.0 c.read_line-r.result c.read_line-r.ensures c.place_of-i.result c.place_of-i.ensures.0 c.is_right.result c.is_right.ensures c.if-not-is_right.false c.past-at.result c.past-at.ensures.0 _ c.mark.ensures,
     )
 
 pub missing-requires : goal.missing-requires
@@ -72,5 +60,4 @@ missing-requires c = c.requires.0
 
 pub returns : goal.returns
 returns c =
-    let l = c.before in
-    tells_end (pos_at l.before.before.args.p) l.before.before.args.lines.now l.loop.seen l.loop.at l.loop.n l.loop.invariant.2 l.before.before.requires.1 l.loop.invariant.0 c.loop-at-test.false c.missing.result c.missing.ensures
+    tells_end (pos_at c.args.p) c.args.lines.now c.loop-at.seen c.loop-at.at c.loop-at.n c.loop-at.invariant.2 c.requires.1 c.loop-at.invariant.0 c.loop-at-test.false c.missing.result c.missing.ensures

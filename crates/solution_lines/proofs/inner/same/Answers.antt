@@ -9,16 +9,16 @@ use Rattle.solution_lines.proofs.Inverse.{not_eight, not_same, all_same}
 use Rattle.solution_lines.proofs.inner.same.Goals as goal
 
 pub returns-then-l-ne8 : goal.returns-then-l-ne8
-returns-then-l-ne8 c = not_eight c.args.t1 _ (search rules) c.if-l-ne8.true
+returns-then-l-ne8 c = not_eight c.args.a _ (search rules) c.if-l-ne8.true
 
 pub loop-i-init : goal.loop-i-init
 loop-i-init c = (omega arith, below_none _)
 
 pub returns-then-a-i : goal.returns-then-a-i
-returns-then-a-i c = not_same c.args.t1 _ (search rules) _ c.if-a-i.true
+returns-then-a-i c = not_same c.args.a _ (search rules) _ c.if-a-i.true
 
 pub loop-i-preserved : goal.loop-i-preserved
 loop-i-preserved c = (omega arith, below_more _ _ c.loop-i.invariant.1 c.if-a-i.false)
 
 pub returns : goal.returns
-returns c = all_same c.args.t1 _ (search rules) (omega arith) (λ k h. c.loop-i.invariant.1 k (let e : length c.args.t1 ≡ 8 = search rules in omega arith))
+returns c = all_same c.args.a _ (search rules) (omega arith) (λ k h. c.loop-i.invariant.1 k (let e : length c.args.a ≡ 8 = search rules in omega arith))

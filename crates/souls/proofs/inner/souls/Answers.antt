@@ -5,4 +5,4 @@ use borrow.Author.Rules.{rules}
 use Rattle.souls.proofs.inner.souls.Goals as goal
 
 pub returns : goal.returns
-returns c = c.souls_of.ensures ∙ rw c.color_place-c.ensures.0 (souls_are c.args.t1 c.args.t2 c.requires c.args.color)
+returns c = c.souls_of.ensures ∙ rw c.color_place-c.ensures.0 (souls_are c.args.pieces c.args.colors c.requires c.args.color)

@@ -8,7 +8,7 @@ use Rattle.squares.proofs.Counting.{count_le}
 use Rattle.souls.proofs.inner.souls_of.Goals as goal
 
 pub overflow_add-result-5 : goal.overflow_add-result-5
-overflow_add-result-5 c = omega (arith, c.count-pawns.ensures, count_le 64 (has (get_or c.args.t1 0 0)))
+overflow_add-result-5 c = omega (arith, c.count-pawns.ensures, count_le 64 (has (get_or c.args.f 0 0)))
 
 pub returns : goal.returns
 unfolding souls_of

@@ -13,8 +13,8 @@ pub is_of-requires : goal.is_of-requires
 is_of-requires c = c.requires
 
 pub returns-then-not-is_of : goal.returns-then-not-is_of
-returns-then-not-is_of c = not_then _ _ (sym (c.is_of.ensures ∙ ap (λ (d : Color). is_of d (man_of c.args.x)) c.other.ensures) ∙ denied _ c.if-not-is_of.true)
+returns-then-not-is_of c = not_then _ _ (sym (c.is_of.ensures ∙ ap (λ (d : Color). is_of d (man_of c.args.x)) c.other.ensures) ∙ c.if-not-is_of.true)
 
 pub returns : goal.returns
 unfolding held_for
-returns c = and_then _ _ (sym (c.is_of.ensures ∙ ap (λ (d : Color). is_of d (man_of c.args.x)) c.other.ensures) ∙ granted _ c.if-not-is_of.false) (ap not c.is_held.ensures)
+returns c = and_then _ _ (sym (c.is_of.ensures ∙ ap (λ (d : Color). is_of d (man_of c.args.x)) c.other.ensures) ∙ c.if-not-is_of.false) (ap not c.is_held.ensures)

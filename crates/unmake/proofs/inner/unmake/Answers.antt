@@ -9,19 +9,19 @@ use Rattle.unmake.proofs.inner.unmake.Goals as goal
 
 pub returns-then-not-source_ok : goal.returns-then-not-source_ok
 unfolding unmade_to
-returns-then-not-source_ok c = rw (sym c.source_ok.ensures ∙ denied _ c.if-not-source_ok.true) c.refuse.ensures
+returns-then-not-source_ok c = rw (sym c.source_ok.ensures ∙ c.if-not-source_ok.true) c.refuse.ensures
 
 pub returns-then-not-target_ok : goal.returns-then-not-target_ok
 unfolding unmade_to
-returns-then-not-target_ok c = rw (sym c.source_ok.ensures ∙ granted _ c.if-not-source_ok.false, sym c.target_ok.ensures ∙ denied _ c.if-not-target_ok.true) c.refuse-then-not-target_ok.ensures
+returns-then-not-target_ok c = rw (sym c.source_ok.ensures ∙ c.if-not-source_ok.false, sym c.target_ok.ensures ∙ c.if-not-target_ok.true) c.refuse-then-not-target_ok.ensures
 
 pub returns-then-is_held : goal.returns-then-is_held
 unfolding unmade_to
-returns-then-is_held c = rw (sym c.source_ok.ensures ∙ granted _ c.if-not-source_ok.false, sym c.target_ok.ensures ∙ granted _ c.if-not-target_ok.false, sym c.is_held.ensures ∙ c.if-is_held.true) c.refuse-then-is_held.ensures
+returns-then-is_held c = rw (sym c.source_ok.ensures ∙ c.if-not-source_ok.false, sym c.target_ok.ensures ∙ c.if-not-target_ok.false, sym c.is_held.ensures ∙ c.if-is_held.true) c.refuse-then-is_held.ensures
 
 pub stepped-requires : goal.stepped-requires
-stepped-requires c = ((c.requires.0, c.requires.1), (source_in (pos_at c.args.p) c.args.r (sym c.source_ok.ensures ∙ granted _ c.if-not-source_ok.false), target_in (pos_at c.args.p) c.args.r (sym c.target_ok.ensures ∙ granted _ c.if-not-target_ok.false)))
+stepped-requires c = ((c.requires.0, c.requires.1), (source_in (pos_at c.args.p) c.args.r (sym c.source_ok.ensures ∙ c.if-not-source_ok.false), target_in (pos_at c.args.p) c.args.r (sym c.target_ok.ensures ∙ c.if-not-target_ok.false)))
 
 pub returns : goal.returns
 unfolding unmade_to
-returns c = rw (sym c.source_ok.ensures ∙ granted _ c.if-not-source_ok.false, sym c.target_ok.ensures ∙ granted _ c.if-not-target_ok.false, sym c.is_held.ensures ∙ c.if-is_held.false) c.stepped.ensures
+returns c = rw (sym c.source_ok.ensures ∙ c.if-not-source_ok.false, sym c.target_ok.ensures ∙ c.if-not-target_ok.false, sym c.is_held.ensures ∙ c.if-is_held.false) c.stepped.ensures

@@ -28,7 +28,7 @@ returns-then-stop-t c = sofar_open _ _ _ c.loop-at.invariant (λ i h g. clear c.
 
 -- src/inner.rt:77:13
 pub returns-then-not-is_in_form : goal.returns-then-not-is_in_form
-returns-then-not-is_in_form c = sofar_stops _ _ _ c.loop-at.invariant c.loop-at-test.true (line_out c.args.t.now c.loop-at.at c.find-stop.result c.loop-at.invariant.inside c.find-stop.ensures.0 c.read_raw-raw.result (before_end c.args.t.now c.loop-at.at c.find-stop.result c.loop-at.invariant.inside c.find-stop.ensures.0 c.if-stop-t.false) c.read_raw-raw.ensures (sym c.is_in_form.ensures ∙ not-true c.is_in_form.result c.if-not-is_in_form.true))
+returns-then-not-is_in_form c = sofar_stops _ _ _ c.loop-at.invariant c.loop-at-test.true (line_out c.args.t.now c.loop-at.at c.find-stop.result c.loop-at.invariant.inside c.find-stop.ensures.0 c.read_raw-raw.result (before_end c.args.t.now c.loop-at.at c.find-stop.result c.loop-at.invariant.inside c.find-stop.ensures.0 c.if-stop-t.false) c.read_raw-raw.ensures (sym c.is_in_form.ensures ∙ c.if-not-is_in_form.true))
 
 -- src/inner.rt:84:9
 pub overflow_add-n : goal.overflow_add-n
@@ -40,7 +40,7 @@ loop-at-smaller c = omega (arith, c.find-stop.ensures.1, c.loop-at-test.true)
 
 -- src/inner.rt:65:5
 pub loop-at-preserved : goal.loop-at-preserved
-loop-at-preserved c = sofar_more _ _ _ c.read_raw-raw.result.position _ c.judge.result c.loop-at.invariant (line_in c.args.t.now c.loop-at.at c.find-stop.result c.loop-at.invariant.inside c.find-stop.ensures.0 c.read_raw-raw.result (before_end c.args.t.now c.loop-at.at c.find-stop.result c.loop-at.invariant.inside c.find-stop.ensures.0 c.if-stop-t.false) c.read_raw-raw.ensures (sym c.is_in_form.ensures ∙ not-false c.is_in_form.result c.if-not-is_in_form.false)) (omega (arith, c.find-stop.ensures.1)) (omega (arith, before_end c.args.t.now c.loop-at.at c.find-stop.result c.loop-at.invariant.inside c.find-stop.ensures.0 c.if-stop-t.false)) c.judge.ensures c.note-named.ensures
+loop-at-preserved c = sofar_more _ _ _ c.read_raw-raw.result.position _ c.judge.result c.loop-at.invariant (line_in c.args.t.now c.loop-at.at c.find-stop.result c.loop-at.invariant.inside c.find-stop.ensures.0 c.read_raw-raw.result (before_end c.args.t.now c.loop-at.at c.find-stop.result c.loop-at.invariant.inside c.find-stop.ensures.0 c.if-stop-t.false) c.read_raw-raw.ensures (sym c.is_in_form.ensures ∙ c.if-not-is_in_form.false)) (omega (arith, c.find-stop.ensures.1)) (omega (arith, before_end c.args.t.now c.loop-at.at c.find-stop.result c.loop-at.invariant.inside c.find-stop.ensures.0 c.if-stop-t.false)) c.judge.ensures c.note-named.ensures
 
 -- src/inner.rt:58:1
 pub returns : goal.returns

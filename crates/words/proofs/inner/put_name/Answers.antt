@@ -31,4 +31,4 @@ returns-in-6 c = rw c.in-6.keys6 c.put-in-6.ensures
 
 pub returns-in_default : goal.returns-in_default
 unfolding bytes_in
-returns-in_default c = adds_as _ _ _ _ _ _ c.put-in_default.ensures (name_rest c.args.kind c.in_default.rest)
+returns-in_default c = adds_as _ _ _ _ _ _ c.put-in_default.ensures (name_rest c.args.kind c.in_default.in_default-own.rest)

@@ -8,4 +8,4 @@ use Rattle.accept.proofs.inner.refusals.bad_pawns.Goals as goal
 
 pub returns : goal.returns
 unfolding has all_to ◌and◌
-returns c = pawns_is c.args.t1.pieces c.args.t1.colors c.requires _ refl
+returns c = pawns_is c.args.p.pieces c.args.p.colors c.requires _ refl

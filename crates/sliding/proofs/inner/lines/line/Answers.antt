@@ -8,6 +8,5 @@ returns-then-a-b c = line_none c.args.a c.args.b c.if-a-b.true
 
 pub returns : goal.returns
 returns c =
-    let s = c.before in
     rw (c.choose-4.ensures, c.falling.ensures, c.falls.ensures, c.choose-3.ensures, c.rising.ensures, c.rises.ensures, c.choose-2.ensures, c.get_file.ensures, c.choose.ensures, c.get_rank.ensures)
-    (line_is s.before.args.a s.before.args.b s.if1.false)
+    (line_is c.args.a c.args.b c.if-a-b.false)

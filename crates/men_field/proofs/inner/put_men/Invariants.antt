@@ -1,0 +1,13 @@
+use mathlib.Core.Path.{refl}
+use Prim.Native.Nat.{◌+◌, ◌-◌, ◌*◌, ◌≤◌}
+use native.Mathlib.Omega.{arith}
+use borrow.Author.Rules.{rules}
+use Rattle.laws.specs.Boards.{men_at}
+use Rattle.men_field.proofs.Adding.{Ranks, ranks_first, ranks_next, ranks_done, rank_short}
+use Rattle.men_field.proofs.inner.put_men.Given as goal
+
+abbrev pub invariant-loop-rank : goal.invariant-loop-rank
+invariant-loop-rank l = (l.rank ≤ 7) × Ranks l.line (men_at l.pieces l.colors) l.rank × (l.line.len + 9 * l.rank ≤ 71)
+
+abbrev pub decreases-loop-rank : goal.decreases-loop-rank
+decreases-loop-rank l = l.rank
