@@ -20,7 +20,7 @@ use Rattle.input.specs.declared.Step.TheVariants.{Line, End, Failed as failed}
 use Rattle.chunks.specs.Newlines.{stop_from}
 use Rattle.input.specs.Reading.{Read, Answered, Found, found_at, scanned, brought, read_on, unread_at, searched, step_for, step_of, kept_in, Gives}
 use Rattle.chunks.specs.inner.Splitting.{stop_of, cut_of, line_of, Fit, Cuts}
-use Rattle.input.specs.inner.Parts.{is_open, cursor_of, opened_at, ending_of, filled_of, Turns}
+use Rattle.input.specs.inner.Parts.{is_open, cursor_of, opened_at, filled_of, Turns}
 use Rattle.chunks.proofs.Cuts.{stop_within, cut_fit}
 use Rattle.input.proofs.Kept.{with_part, Kept, kept_cut}
 

@@ -66,7 +66,12 @@ fn show_square(out: &impl Print, a: u8)
     show(out, "knight ", a, steps::inner::get_knight_moves(a));
     show(out, "king ", a, steps::inner::get_king_moves(a));
     show(out, "rookrays ", a, sliding::inner::get_rook_moves(a, 0));
-    show(out, "bishoprays ", a, sliding::inner::get_bishop_moves(a, 0));
+    show(
+        out,
+        "bishoprays ",
+        a,
+        sliding::inner::get_bishop_moves(a, 0),
+    );
     show(
         out,
         "pawnw ",

@@ -86,7 +86,13 @@ fn show_set(out: &impl Print, occ: u64) {
 fn show_square(out: &impl Print, sq: u8, occ: u64)
     requires { sq < 64 }
 {
-    show(out, "rook ", sq, occ, sliding::inner::get_rook_moves(sq, occ));
+    show(
+        out,
+        "rook ",
+        sq,
+        occ,
+        sliding::inner::get_rook_moves(sq, occ),
+    );
     show(
         out,
         "bishop ",
@@ -94,7 +100,13 @@ fn show_square(out: &impl Print, sq: u8, occ: u64)
         occ,
         sliding::inner::get_bishop_moves(sq, occ),
     );
-    show(out, "queen ", sq, occ, sliding::inner::get_queen_moves(sq, occ));
+    show(
+        out,
+        "queen ",
+        sq,
+        occ,
+        sliding::inner::get_queen_moves(sq, occ),
+    );
 }
 
 fn show(out: &impl Print, name: &str, sq: u8, occ: u64, set: u64) {

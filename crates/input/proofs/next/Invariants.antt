@@ -1,7 +1,5 @@
 -- What the reads so far come to, whatever was unread before them; each turn takes one from the reads that are left.
-use Rattle.std.proofs.Common.{List, ℕ}
 use Rattle.chunks.specs.inner.Splitting.{Fit}
-use Rattle.input.specs.declared.Cursor.{Cursor}
 use Rattle.input.proofs.Searched.{Going}
 use Rattle.input.proofs.next.Given as goal
 
