@@ -16,7 +16,7 @@ put_board-d-requires c =
 
 pub returns-in-Count : goal.returns-in-Count
 unfolding bytes_in
-returns-in-Count c = let b = c.args.b in opening_shown _ (search rules) b (printing_tells b _ c.print-p.ensures _ c.p-1.given.1) c.put-a.ensures c.put_board-d.ensures c.put_side-side.ensures c.put.ensures
+returns-in-Count c = let b = c.args.b in opening_shown _ (search rules) b (printing_tells b _ c.print-p.ensures _ c.in-Count.is) c.put-a.ensures c.put_board-d.ensures c.put_side-side.ensures c.put.ensures
 
 pub returns-in-Room : goal.returns-in-Room
 returns-in-Room c = let b = c.args.b in absurd (never_room b _ _ _ (search rules) (printing_tells b _ c.print-p.ensures _ c.in-Room.is))

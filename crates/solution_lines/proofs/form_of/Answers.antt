@@ -1,4 +1,6 @@
 -- `solution_lines::form_of` meets its contract.
+use mathlib.Core.Path.{ap}
+use mathlib.Core.Bool.{not}
 use Prim.Native.Nat.{◌-◌, ◌≤◌}
 use native.Mathlib.Omega.{arith}
 use lib.ListN.{length}
@@ -26,11 +28,11 @@ slice_bounds-is_formed-end c = omega (arith, c.find-stop.ensures.1, c.find-stop.
 
 pub returns-then-not-is_formed : goal.returns-then-not-is_formed
 returns-then-not-is_formed c =
-    tells_line c.args.lines.now c.loop-at.at c.loop-at.n c.loop-at.invariant.2 c.loop-at-test.true c.find-stop.result c.find-stop.ensures.0 c.is_formed.result c.is_formed.ensures c.if-not-is_formed.true c.loop-at.invariant.1
+    tells_line c.args.lines.now c.loop-at.at c.loop-at.n c.loop-at.invariant.2 c.loop-at-test.true c.find-stop.result c.find-stop.ensures.0 c.is_formed.result c.is_formed.ensures (ap not c.if-not-is_formed.true) c.loop-at.invariant.1
 
 pub returns-then-n-ge-MOST_LINES : goal.returns-then-n-ge-MOST_LINES
 returns-then-n-ge-MOST_LINES c =
-    tells_many c.args.lines.now c.loop-at.at c.loop-at.n c.loop-at.invariant.2 c.loop-at-test.true c.find-stop.result c.find-stop.ensures.0 c.is_formed.result c.is_formed.ensures c.if-not-is_formed.false c.if-n-ge-MOST_LINES.true
+    tells_many c.args.lines.now c.loop-at.at c.loop-at.n c.loop-at.invariant.2 c.loop-at-test.true c.find-stop.result c.find-stop.ensures.0 c.is_formed.result c.is_formed.ensures (ap not c.if-not-is_formed.false) c.if-n-ge-MOST_LINES.true
 
 pub past-at-requires : goal.past-at-requires
 past-at-requires c = c.find-stop.ensures.2
@@ -44,7 +46,7 @@ loop-at-preserved c =
     (
       c.past-at.ensures.1,
       omega (arith, c.if-n-ge-MOST_LINES.false),
-      goes_on c.args.lines.now c.loop-at.at c.loop-at.n c.loop-at.invariant.2 c.loop-at-test.true c.find-stop.result c.find-stop.ensures.0 c.is_formed.result c.is_formed.ensures c.if-not-is_formed.false c.past-at.result c.past-at.ensures.0,
+      goes_on c.args.lines.now c.loop-at.at c.loop-at.n c.loop-at.invariant.2 c.loop-at-test.true c.find-stop.result c.find-stop.ensures.0 c.is_formed.result c.is_formed.ensures (ap not c.if-not-is_formed.false) c.past-at.result c.past-at.ensures.0,
     )
 
 pub returns : goal.returns

@@ -10,23 +10,19 @@ use Rattle.retraction_gen.proofs.Stepping.{steps}
 use Rattle.retraction_gen.proofs.Going.{again_less, step_again, step_found, step_over}
 use Rattle.retraction_gen.proofs.RetractionGen.next.Goals as goal
 
--- what a turn that goes on says of the turn's definition
-again : (c : tie.After-enum-told invariant-loop decreases-loop) → (turn_of c.before.before.before.before.loop.self).turn ≡ Again
-again c = ap (λ (t : Turned). t.turn) (sym c.before.before.before.one-turn.ensures) ∙ c.enum_told.given.1
-
 pub returns-then-not-well_formed : goal.returns-then-not-well_formed
-returns-then-not-well_formed c = steps _ _ _ (rw (← c.well-formed-2.ensures, c.if-not-well_formed.true))
+returns-then-not-well_formed c = steps _ _ _ (rw (← c.well_formed-2.ensures, c.if-not-well_formed.true))
 
 pub loop-r-init : goal.loop-r-init
 loop-r-init c =
     let g = c.args.self in
-    ap (λ (t : Bool). cond t (step_of g) (back g end_said)) (sym c.well-formed-2.ensures ∙ c.if-not-well_formed.false)
+    ap (λ (t : Bool). cond t (step_of g) (back g end_said)) (sym c.well_formed-2.ensures ∙ c.if-not-well_formed.false)
 
 pub loop-r-smaller : goal.loop-r-smaller
-loop-r-smaller c = rw c.one_turn-t.ensures (again_less _ (again c))
+loop-r-smaller c = rw c.one_turn-t.ensures (again_less _ (ap (λ (t : Turned). t.turn) (sym c.one_turn-t.ensures) ∙ c.in-Again.is))
 
 pub loop-r-preserved : goal.loop-r-preserved
-loop-r-preserved c = c.loop-r.invariant ∙ rw c.one_turn-t.ensures (step_again _ (again c))
+loop-r-preserved c = c.loop-r.invariant ∙ rw c.one_turn-t.ensures (step_again _ (ap (λ (t : Turned). t.turn) (sym c.one_turn-t.ensures) ∙ c.in-Again.is))
 
 pub returns-in-Found : goal.returns-in-Found
 returns-in-Found c =

@@ -8,29 +8,26 @@ use Rattle.retraction_gen.specs.Cursors.{on_entry, turn_of}
 use Rattle.retraction_gen.proofs.Going.{on_index}
 use Rattle.retraction_gen.proofs.inner.one_turn.Goals as goal
 
-on : (c : tie.Else1) → on_entry c.before.before.args.t1 ≡ true
-on c = sym c.before.on-entry.ensures ∙ c.if1.false
-
 pub returns-then-not-on_entry : goal.returns-then-not-on_entry
 unfolding turn_of
 returns-then-not-on_entry c = rw (← c.on_entry.ensures, c.if-not-on_entry.true)
 
 pub offset_bounds-g-i : goal.offset_bounds-g-i
-offset_bounds-g-i c = omega (arith, on_index _ (on c))
+offset_bounds-g-i c = omega (arith, on_index _ (sym c.on_entry.ensures ∙ c.if-not-on_entry.false))
 
 pub bounds-g-i : goal.bounds-g-i
-bounds-g-i c = on_index _ (on c)
+bounds-g-i c = on_index _ (sym c.on_entry.ensures ∙ c.if-not-on_entry.false)
 
 pub overflow_add-g2 : goal.overflow_add-g2
-overflow_add-g2 c = omega (arith, on_index _ (on c.before))
+overflow_add-g2 c = omega (arith, on_index _ (sym c.on_entry.ensures ∙ c.if-not-on_entry.false))
 
 pub returns-then-lowest-gt63 : goal.returns-then-lowest-gt63
 unfolding turn_of
-returns-then-lowest-gt63 c = rw (c.again.ensures, on c.before, ← c.lowest.ensures, lt-ltb _ _ c.if-lowest-gt63.true)
+returns-then-lowest-gt63 c = rw (c.again.ensures, sym c.on_entry.ensures ∙ c.if-not-on_entry.false, ← c.lowest.ensures, lt-ltb _ _ c.if-lowest-gt63.true)
 
 pub turn_in-requires : goal.turn_in-requires
-turn_in-requires c = on_index _ (on c.before)
+turn_in-requires c = on_index _ (sym c.on_entry.ensures ∙ c.if-not-on_entry.false)
 
 pub returns : goal.returns
 unfolding turn_of
-returns c = rw (on c.before, ← c.lowest.ensures, le-ltb _ _ c.if-lowest-gt63.false, c.turn_in.ensures)
+returns c = rw (sym c.on_entry.ensures ∙ c.if-not-on_entry.false, ← c.lowest.ensures, le-ltb _ _ c.if-lowest-gt63.false, c.turn_in.ensures)

@@ -1,5 +1,6 @@
 -- `solution::inner::missing` meets its contract.
-use mathlib.Core.Path.{sym, ◌∙◌}
+use mathlib.Core.Path.{sym, ap, ◌∙◌}
+use mathlib.Core.Bool.{not}
 use Prim.Native.Nat.{◌-◌}
 use native.Mathlib.Omega.{arith}
 use Rattle.laws.specs.Boards.{pos_at}
@@ -29,7 +30,7 @@ candidate-requires c = omega (arith, inner _ _ _ c.next_from-j.ensures c.if-j-eq
 pub returns-then-not-is_marked : goal.returns-then-not-is_marked
 returns-then-not-is_marked c =
     let l = inner _ _ _ c.next_from-j.ensures c.if-j-eq-PLACES.false in
-    lacks_here _ _ _ _ c.next_from-j.ensures c.loop-i.invariant l _ c.candidate.ensures _ c.is_marked.ensures c.if-not-is_marked.true
+    lacks_here _ _ _ _ c.next_from-j.ensures c.loop-i.invariant l _ c.candidate.ensures _ c.is_marked.ensures (ap not c.if-not-is_marked.true)
 
 pub overflow_add-i : goal.overflow_add-i
 overflow_add-i c = omega (arith, c.next_from-j.ensures.skips.most)

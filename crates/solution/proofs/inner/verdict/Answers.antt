@@ -1,4 +1,6 @@
 -- `solution::inner::verdict` meets its contract.
+use mathlib.Core.Path.{ap}
+use mathlib.Core.Bool.{not}
 use Prim.Native.Nat.{◌-◌, ◌≤◌}
 use native.Mathlib.Omega.{arith}
 use lib.ListN.{length}
@@ -34,7 +36,7 @@ is_right-requires c =
 
 pub returns-then-not-is_right : goal.returns-then-not-is_right
 returns-then-not-is_right c =
-    tells_wrong (pos_at c.args.p) c.args.lines.now c.loop-at.seen c.loop-at.at c.loop-at.n c.loop-at.invariant.2 c.requires.1 c.loop-at-test.true c.find-stop.result c.find-stop.ensures.0 c.read_line-r.result c.read_line-r.ensures c.place_of-i.result c.place_of-i.ensures.0 c.is_right.result c.is_right.ensures c.if-not-is_right.true
+    tells_wrong (pos_at c.args.p) c.args.lines.now c.loop-at.seen c.loop-at.at c.loop-at.n c.loop-at.invariant.2 c.requires.1 c.loop-at-test.true c.find-stop.result c.find-stop.ensures.0 c.read_line-r.result c.read_line-r.ensures c.place_of-i.result c.place_of-i.ensures.0 c.is_right.result c.is_right.ensures (ap not c.if-not-is_right.true)
 
 pub mark-requires : goal.mark-requires
 mark-requires c =
@@ -52,7 +54,7 @@ loop-at-preserved c =
     (
       c.past-at.ensures.1,
       omega (arith, c.loop-at.invariant.1, next_on c.args.lines.now c.loop-at.at c.loop-at-test.true c.find-stop.result c.find-stop.ensures.0 c.past-at.result c.past-at.ensures.0),
-      goes_on (pos_at c.args.p) c.args.lines.now c.loop-at.seen c.loop-at.at c.loop-at.n c.loop-at.invariant.2 c.requires.1 c.loop-at-test.true c.find-stop.result c.find-stop.ensures.0 c.read_line-r.result c.read_line-r.ensures c.place_of-i.result c.place_of-i.ensures.0 c.is_right.result c.is_right.ensures c.if-not-is_right.false c.past-at.result c.past-at.ensures.0 _ c.mark.ensures,
+      goes_on (pos_at c.args.p) c.args.lines.now c.loop-at.seen c.loop-at.at c.loop-at.n c.loop-at.invariant.2 c.requires.1 c.loop-at-test.true c.find-stop.result c.find-stop.ensures.0 c.read_line-r.result c.read_line-r.ensures c.place_of-i.result c.place_of-i.ensures.0 c.is_right.result c.is_right.ensures (ap not c.if-not-is_right.false) c.past-at.result c.past-at.ensures.0 _ c.mark.ensures,
     )
 
 pub missing-requires : goal.missing-requires

@@ -16,10 +16,10 @@ pub keep-requires : goal.keep-requires
 keep-requires c = (omega arith, c.loop-s.invariant.1.long)
 
 pub overflow_add-n : goal.overflow_add-n
-overflow_add-n c = omega (arith, gathered_le _ _ _ _ (gathered_more (pos_at c.args.p) c.loop-s.auto _ c.loop-s.n c.loop-s.s _ _ c.loop-s.invariant.1 c.targets_of-w.ensures c.keep.ensures c.size_of-n.ensures))
+overflow_add-n c = omega (arith, gathered_le _ _ _ _ (gathered_more (pos_at c.args.p) c.loop-s.kept _ c.loop-s.n c.loop-s.s _ _ c.loop-s.invariant.1 c.targets_of-w.ensures c.keep.ensures c.size_of-n.ensures))
 
 pub loop-s-preserved : goal.loop-s-preserved
-loop-s-preserved c = (omega arith, gathered_more (pos_at c.args.p) c.loop-s.auto _ c.loop-s.n c.loop-s.s _ _ c.loop-s.invariant.1 c.targets_of-w.ensures c.keep.ensures c.size_of-n.ensures)
+loop-s-preserved c = (omega arith, gathered_more (pos_at c.args.p) c.loop-s.kept _ c.loop-s.n c.loop-s.s _ _ c.loop-s.invariant.1 c.targets_of-w.ensures c.keep.ensures c.size_of-n.ensures)
 
 pub returns : goal.returns
 returns c = gathered_all (pos_at c.args.p) _ _ c.loop-s.s c.loop-s.invariant.1 (omega arith)

@@ -41,7 +41,7 @@ loop-i-smaller c = omega (arith, c.loop-i-test.true)
 
 -- src/inner.rt:134:5
 pub loop-i-preserved : goal.loop-i-preserved
-loop-i-preserved c = scanning_more c.board-b.result.board c.loop-i.invariant c.loop-i-test.true (subst (λ (j : Judged). ReadsBy c.args.v.now c.args.n c.loop-i.i c.board-b.result.board j) c.enum_told-1.given.1 c.board-b.ensures) c.line_of-l.ensures.0.len c.line_of-l.ensures.1
+loop-i-preserved c = scanning_more c.board-b.result.board c.loop-i.invariant c.loop-i-test.true (subst (λ (j : Judged). ReadsBy c.args.v.now c.args.n c.loop-i.i c.board-b.result.board j) c.in-Accepted.is c.board-b.ensures) c.line_of-l.ensures.0.len c.line_of-l.ensures.1
 
 -- src/inner.rt:128:1
 pub returns : goal.returns
