@@ -1,10 +1,9 @@
 -- `rows::inner::count_strict` meets its contract.
-use mathlib.Core.Path.{◌≡◌, refl, ◌∙◌, ap}
-use Prim.Native.Nat.{◌-◌, ◌*◌, ◌≤◌}
+use mathlib.Core.Path.{refl, ◌∙◌, ap}
+use Prim.Native.Nat.{◌-◌}
 use native.Mathlib.Omega.{arith}
-use lib.ListN.{length, take}
+use lib.ListN.{length}
 use lib.Seq.{take_all}
-use borrow.Author.Rules.{rules}
 use Rattle.squares.specs.Members.{concat}
 use Rattle.rows.specs.inner.Marked.{strict_by}
 use Rattle.rows.proofs.Adding.{count_next}
