@@ -5,5 +5,5 @@ use lib.Seq.{length-take-le}
 use borrow.Author.Rules.{rules}
 use Rattle.volume_verb.proofs.inner.bytes.put_front.Goals as goal
 
-pub MISSING-slice-aggregate-put-2 : goal.MISSING-slice-aggregate-put-2
-MISSING-slice-aggregate-put-2 c = sym (length-take-le _ _ (omega arith))
+pub slice_bounds-put-end-2 : goal.slice_bounds-put-end-2
+slice_bounds-put-end-2 c = sym (length-take-le _ _ (omega arith))
