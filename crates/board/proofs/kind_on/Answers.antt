@@ -1,6 +1,5 @@
 -- `board::kind_on` meets its contract.
 use mathlib.Core.Path.{◌∙◌, sym}
-use borrow.Author.Rules.{rules}
 use Rattle.board.proofs.kind_on.Goals as goal
 
 pub returns-then-has : goal.returns-then-has

@@ -1,5 +1,4 @@
 -- `board::no_board` meets its contract.
-use borrow.Author.Rules.{rules}
 use Rattle.board.proofs.no_board.Goals as goal
 
 pub returns : goal.returns

@@ -1,5 +1,4 @@
 -- `board::told` meets its contract.
-use borrow.Author.Rules.{rules}
 use borrow.Author.Tests.{ne_eqb}
 use Rattle.board.proofs.told.Goals as goal
 

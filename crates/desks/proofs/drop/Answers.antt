@@ -4,7 +4,6 @@ use Rattle.refusal.specs.declared.Verdict.TheVariants.{Accepted}
 use Rattle.refusal.specs.Said.{first_failing}
 use Rattle.desks.specs.Desks.{drop}
 use Rattle.desks.proofs.Standing.{refused, has_places, answered}
-use borrow.Author.Rules.{rules}
 use Rattle.desks.proofs.drop.Goals as goal
 
 pub drop_at-requires : goal.drop_at-requires

@@ -4,7 +4,6 @@ use Rattle.refusal.specs.declared.Verdict.TheVariants.{Accepted}
 use Rattle.refusal.specs.Said.{first_failing}
 use Rattle.desks.specs.Desks.{fetch}
 use Rattle.desks.proofs.Standing.{refused, has_places, answered}
-use borrow.Author.Rules.{rules}
 use Rattle.desks.proofs.fetch.Goals as goal
 
 pub fetch_at-requires : goal.fetch_at-requires

@@ -2,7 +2,6 @@
 use mathlib.Core.Path.{sym, ◌∙◌}
 use Rattle.desks.specs.Desks.{put}
 use Rattle.desks.proofs.Standing.{refused, has_places, answered}
-use borrow.Author.Rules.{rules}
 use Rattle.desks.proofs.put.Goals as goal
 
 pub put_at-requires : goal.put_at-requires

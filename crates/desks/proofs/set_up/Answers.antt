@@ -2,10 +2,8 @@
 use mathlib.Core.Path.{sym, ap, ◌∙◌}
 use native.Mathlib.Omega.{arith}
 use lib.ListN.{length, length-set}
-use borrow.Author.Tests.{not-true, not-false}
 use Rattle.desks.proofs.Room.{has_room}
 use Rattle.desks.proofs.Calling.{set_refused, set_done, length_cleared}
-use borrow.Author.Rules.{rules}
 use Rattle.desks.proofs.set_up.Goals as goal
 
 pub returns-then-not-has_room : goal.returns-then-not-has_room

@@ -1,7 +1,6 @@
 -- `digits::hex_digit` meets its contract.
 use mathlib.Core.Path.{refl}
 use native.Mathlib.Omega.{arith}
-use borrow.Author.Rules.{rules}
 use borrow.Author.Tests.{le-leb, lt-leb}
 use Rattle.squares.specs.Tests.{◌and◌}
 use Rattle.digits.specs.Digits.{hex_digit}

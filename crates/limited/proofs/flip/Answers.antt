@@ -1,5 +1,4 @@
 -- `limited::flip` meets its contract.
-use borrow.Author.Rules.{rules}
 use Rattle.limited.proofs.flip.Goals as goal
 
 pub returns : goal.returns

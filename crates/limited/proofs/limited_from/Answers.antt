@@ -3,7 +3,6 @@ use mathlib.Core.Path.{◌≡◌, ◌∙◌, sym, ap}
 use mathlib.Core.Bool.{Bool, true, false, not, cond}
 use mathlib.Core.List.{[], ◌∷◌}
 use lib.Dec.{eqb}
-use borrow.Author.Rules.{rules}
 use Rattle.refusal.specs.Said.{told}
 use Rattle.limited.specs.Limiting.{names_square, sides_of, limited_from}
 use Rattle.squares.specs.Tests.{◌or◌}

@@ -1,5 +1,4 @@
 -- `limited::side` meets its contract.
-use borrow.Author.Rules.{rules}
 use Rattle.retraction_gen.specs.Making.{masks_on}
 use Rattle.view.proofs.Seen.{ready}
 use Rattle.limited.proofs.Fitting.{side_full, side_held}

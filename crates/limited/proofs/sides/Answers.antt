@@ -1,6 +1,5 @@
 -- `limited::sides` meets its contract.
 use mathlib.Core.Path.{sym, ap, ◌∙◌}
-use borrow.Author.Rules.{rules}
 use Rattle.limited.specs.declared.Limited.TheVariants.{Yes, No, Refused}
 use Rattle.limited.specs.Limiting.{limited_says, sides_of}
 use Rattle.limited.proofs.Fitting.{side_then, flip_whole}

@@ -3,7 +3,7 @@ use mathlib.Core.Path.{sym, ◌∙◌}
 use Prim.Native.Nat.{◌+◌, ◌≤◌}
 use native.Mathlib.Omega.{arith}
 use lib.ListN.{length}
-use borrow.Author.Tests.{leb-true, not-true, not-false}
+use borrow.Author.Tests.{leb-true}
 use borrow.Author.Rules.{rules}
 use Rattle.output.proofs.Added.{puts, puts_none}
 use Rattle.output.proofs.put_bytes.Goals as goal

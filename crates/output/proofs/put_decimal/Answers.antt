@@ -1,6 +1,5 @@
 -- `output::put_decimal` meets its contract.
 use mathlib.Core.Path.{refl}
-use borrow.Author.Rules.{rules}
 use Rattle.output.proofs.Added.{puts_digits}
 use Rattle.output.proofs.put_decimal.Goals as goal
 

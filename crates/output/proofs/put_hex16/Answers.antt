@@ -1,5 +1,4 @@
 -- `output::put_hex16` meets its contract.
-use borrow.Author.Rules.{rules}
 use Rattle.output.proofs.Added.{puts_digits, sixteen}
 use Rattle.output.proofs.put_hex16.Goals as goal
 

@@ -1,7 +1,6 @@
 -- `record_reply::send` meets its contract.
 use Rattle.text.proofs.RoundTrip.{read_accepted}
 use Rattle.record_reply.proofs.Spoken.{send_refused, send_accepted}
-use borrow.Author.Rules.{rules}
 use Rattle.record_reply.proofs.send.Goals as goal
 
 pub turned-other-requires : goal.turned-other-requires

@@ -1,6 +1,5 @@
 -- `records::write` meets its contract.
 use Rattle.records.proofs.Writing.{not_written, written_so}
-use borrow.Author.Rules.{rules}
 use Rattle.records.proofs.write.Goals as goal
 
 pub returns-in-Refused : goal.returns-in-Refused

@@ -1,5 +1,4 @@
 -- `reply::put_refused` meets its contract.
-use borrow.Author.Rules.{rules}
 use Rattle.reply.proofs.put_refused.Goals as goal
 
 pub returns : goal.returns

@@ -1,6 +1,5 @@
 -- `retraction_gen::uncaptured_candidates` meets its contract.
 use mathlib.Core.Path.{refl}
-use borrow.Author.Rules.{rules}
 use Rattle.retraction_gen.specs.Making.{masks_on}
 use Rattle.retraction_gen.proofs.Gated.{masked_refused, masked_on}
 use Rattle.retraction_gen.proofs.uncaptured_candidates.Goals as goal

@@ -3,8 +3,6 @@ use mathlib.Core.Path.{sym, ◌∙◌}
 use Prim.Native.Nat.{◌<◌, ◌^◌}
 use native.Mathlib.Omega.{arith}
 use lib.ListN.{length}
-use borrow.Author.Tests.{not-true, not-false}
-use borrow.Author.Rules.{rules}
 use Rattle.output.proofs.Added.{used_adds}
 use Rattle.rows.proofs.Marking.{marks_none, listed_same, strict_same}
 use Rattle.rows.proofs.Whole.{no_room, listed_room, strict_room, report_put}

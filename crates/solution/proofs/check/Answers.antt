@@ -1,7 +1,6 @@
 -- `solution::check` meets its contract.
 use Rattle.text.proofs.RoundTrip.{read_accepted}
 use Rattle.solution.proofs.Answering.{checks_refused, checks_told}
-use borrow.Author.Rules.{rules}
 use Rattle.solution.proofs.check.Goals as goal
 
 pub today-requires : goal.today-requires

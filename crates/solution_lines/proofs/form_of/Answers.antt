@@ -1,13 +1,10 @@
 -- `solution_lines::form_of` meets its contract.
 use mathlib.Core.Path.{ap}
 use mathlib.Core.Bool.{not}
-use Prim.Native.Nat.{◌-◌, ◌≤◌}
+use Prim.Native.Nat.{◌-◌}
 use native.Mathlib.Omega.{arith}
-use lib.ListN.{length}
-use borrow.Author.Rules.{rules}
-use Rattle.solution_lines.specs.Lines.{lines_of, OutOfForm}
 use Rattle.solution_lines.proofs.Cutting.{next_on}
-use Rattle.solution_lines.proofs.Walking.{Through, start}
+use Rattle.solution_lines.proofs.Walking.{start}
 use Rattle.solution_lines.proofs.Forms.{tells_line, tells_many, goes_on, tells_all}
 use Rattle.solution_lines.proofs.form_of.Goals as goal
 
@@ -42,12 +39,11 @@ loop-at-smaller c =
     omega (arith, next_on c.args.lines.now c.loop-at.at c.loop-at-test.true c.find-stop.result c.find-stop.ensures.0 c.past-at.result c.past-at.ensures.0)
 
 pub loop-at-preserved : goal.loop-at-preserved
-loop-at-preserved c =
-    (
-      c.past-at.ensures.1,
-      omega (arith, c.if-n-ge-MOST_LINES.false),
-      goes_on c.args.lines.now c.loop-at.at c.loop-at.n c.loop-at.invariant.2 c.loop-at-test.true c.find-stop.result c.find-stop.ensures.0 c.is_formed.result c.is_formed.ensures (ap not c.if-not-is_formed.false) c.past-at.result c.past-at.ensures.0,
-    )
+loop-at-preserved c = (
+  c.past-at.ensures.1,
+  omega (arith, c.if-n-ge-MOST_LINES.false),
+  goes_on c.args.lines.now c.loop-at.at c.loop-at.n c.loop-at.invariant.2 c.loop-at-test.true c.find-stop.result c.find-stop.ensures.0 c.is_formed.result c.is_formed.ensures (ap not c.if-not-is_formed.false) c.past-at.result c.past-at.ensures.0,
+)
 
 pub returns : goal.returns
 returns c = tells_all c.args.lines.now c.loop-at.at c.loop-at.n c.loop-at.invariant.2 c.loop-at.invariant.0 c.loop-at-test.false c.loop-at.invariant.1

@@ -3,7 +3,6 @@ use mathlib.Core.Path.{sym}
 use native.Mathlib.Omega.{arith}
 use lib.Seq.{length-take-le}
 use Rattle.solution_reply.proofs.Spoken.{answered}
-use borrow.Author.Rules.{rules}
 use Rattle.solution_reply.proofs.reply.Goals as goal
 
 pub slice_bounds-check-end : goal.slice_bounds-check-end

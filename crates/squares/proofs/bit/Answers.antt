@@ -3,7 +3,6 @@ use mathlib.Core.Path.{sym, ◌∙◌}
 use native.Mathlib.Omega.{arith}
 use lib.Dec.{eqb}
 use borrow.Author.Tests.{ne_eqb}
-use borrow.Author.Rules.{rules}
 use Rattle.squares.proofs.Digits.{one_shl}
 use Rattle.squares.proofs.Comprehension.{only_is, set_of_none}
 use Rattle.squares.proofs.bit.Goals as goal

@@ -2,7 +2,6 @@
 use native.Mathlib.Omega.{arith}
 use lib.Dec.{eqb}
 use borrow.Author.Tests.{ne_eqb}
-use borrow.Author.Rules.{rules}
 use Rattle.squares.specs.Squares.{rank}
 use Rattle.squares.proofs.Shifts.{rank_mask}
 use Rattle.squares.proofs.Comprehension.{set_of_none}

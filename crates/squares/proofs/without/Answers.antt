@@ -1,5 +1,4 @@
 -- `squares::without` meets its contract.
-use borrow.Author.Rules.{rules}
 use Rattle.squares.proofs.LeastMember.{without_is}
 use Rattle.squares.proofs.without.Goals as goal
 

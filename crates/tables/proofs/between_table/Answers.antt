@@ -1,12 +1,8 @@
 -- `tables::between_table` meets its contract.
-use mathlib.Core.Path.{◌≡◌, refl}
-use mathlib.Core.Bool.{true}
-use mathlib.Core.List.{List}
-use Prim.Native.Nat.{ℕ}
+use mathlib.Core.Path.{refl}
 use Rattle.squares.specs.Tests.{◌and◌, ◌or◌}
 use Rattle.squares.specs.Squares.{up_to}
 use Rattle.geometry.specs.Lines.{between_of, between, same_rank, same_file, same_diagonal}
-use Rattle.tables.proofs.Entries.{follows}
 use Rattle.tables.proofs.BetweenRule.{entry_of, rule}
 use Rattle.tables.proofs.between_table.Reads as reads
 use Rattle.tables.proofs.between_table.Lts as lts

@@ -1,6 +1,5 @@
 -- `text::print` meets its contract.
 use Rattle.text.proofs.Printing.{not_printed, printed_so}
-use borrow.Author.Rules.{rules}
 use Rattle.text.proofs.print.Goals as goal
 
 pub returns-in-Refused : goal.returns-in-Refused

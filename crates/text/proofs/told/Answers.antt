@@ -1,5 +1,4 @@
 -- `text::told` meets its contract.
-use borrow.Author.Rules.{rules}
 use Rattle.text.proofs.told.Goals as goal
 
 pub returns-in-Count : goal.returns-in-Count

@@ -1,6 +1,5 @@
 -- `turning::turn` meets its contract.
 use mathlib.Core.Path.{sym, ◌∙◌, ap, subst}
-use borrow.Author.Rules.{rules}
 use Rattle.refusal.specs.declared.Verdict.{Verdict}
 use Rattle.board.specs.Gate.{gate_of, board_tests, boarded_by}
 use Rattle.board.specs.Said.{Boards}

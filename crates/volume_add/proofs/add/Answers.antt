@@ -4,12 +4,6 @@ use Rattle.volume_contents.proofs.Sound.{size_of_lem}
 use Rattle.volume_read.proofs.Told.{told_table, rows_few, rows_sound, rows_sized, told_row, told_whole}
 use Rattle.volume_add.specs.Adding.{spoilt}
 use Rattle.volume_add.proofs.Told.{told}
-use borrow.Author.Rules.{rules}
-use Rattle.volume_add.proofs.add.Reads as reads
-use Rattle.volume_add.proofs.add.Lts as lts
-use Rattle.volume_add.proofs.inner.add_to.Reads as add-to-reads
-use Rattle.volume_read.proofs.inner.contents.Reads as contents-reads
-use Rattle.volume_read.proofs.inner.scan.Reads as scan-reads
 use Rattle.volume_add.proofs.add.Goals as goal
 
 -- src/lib.rt:19:17

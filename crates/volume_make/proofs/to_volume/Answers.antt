@@ -4,12 +4,6 @@ use Rattle.volume_lines.specs.declared.Named.{Named}
 use Rattle.volume_lines.specs.inner.Surveys.{Surveyed}
 use Rattle.volume_make.specs.Making.{unlined}
 use Rattle.volume_make.proofs.Told.{stopped, stops_few, told_many, told_refuses, told_room, counted, told_written}
-use borrow.Author.Rules.{rules}
-use Rattle.volume_make.proofs.to_volume.Reads as reads
-use Rattle.volume_make.proofs.to_volume.Lts as lts
-use Rattle.volume_lines.proofs.inner.survey.Reads as survey-reads
-use Rattle.volume_lines.proofs.inner.unrefused.Reads as unrefused-reads
-use Rattle.volume_make.proofs.inner.write.Reads as write-reads
 use Rattle.volume_make.proofs.to_volume.Goals as goal
 
 -- src/lib.rt:20:43

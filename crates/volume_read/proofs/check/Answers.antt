@@ -1,10 +1,5 @@
 use mathlib.Core.Bool.{false}
 use Rattle.volume_read.proofs.Told.{told_table, rows_sized, told_row, told_whole}
-use borrow.Author.Rules.{rules}
-use Rattle.volume_read.proofs.check.Reads as reads
-use Rattle.volume_read.proofs.check.Lts as lts
-use Rattle.volume_read.proofs.inner.contents.Reads as contents-reads
-use Rattle.volume_read.proofs.inner.scan.Reads as scan-reads
 use Rattle.volume_read.proofs.check.Goals as goal
 
 -- src/lib.rt:61:17

@@ -5,12 +5,6 @@ use Rattle.volume_read.specs.declared.Sought.TheVariants.{Refused}
 use Rattle.volume_read.specs.Reading.{spoilt, sound}
 use Rattle.volume_read.specs.inner.Scanning.{TableOf}
 use Rattle.volume_read.proofs.Told.{rows_few, rows_sound}
-use borrow.Author.Rules.{rules}
-use Rattle.volume_read.proofs.problem.Reads as reads
-use Rattle.volume_read.proofs.problem.Lts as lts
-use Rattle.position.proofs.inner.nothing.Reads as nothing-reads
-use Rattle.volume_read.proofs.inner.contents.Reads as contents-reads
-use Rattle.volume_read.proofs.inner.problem.Reads as problem-reads
 use Rattle.volume_read.proofs.problem.Goals as goal
 
 -- src/lib.rt:83:27

@@ -2,12 +2,6 @@ use mathlib.Core.Path.{refl}
 use mathlib.Core.Bool.{true}
 use Rattle.volume_read.specs.Reading.{refuses}
 use Rattle.volume_read.proofs.Told.{told_table, rows_sized, told_row, fitted, told_narrow, told_lined}
-use borrow.Author.Rules.{rules}
-use Rattle.volume_read.proofs.to_lines.Reads as reads
-use Rattle.volume_read.proofs.to_lines.Lts as lts
-use Rattle.volume_read.proofs.inner.contents.Reads as contents-reads
-use Rattle.volume_read.proofs.inner.put_lines.Reads as put-lines-reads
-use Rattle.volume_read.proofs.inner.scan.Reads as scan-reads
 use Rattle.volume_read.proofs.to_lines.Goals as goal
 
 -- src/lib.rt:95:17

@@ -1,7 +1,6 @@
 -- `accept::inner::third` meets its contract.
 use mathlib.Core.Path.{◌∙◌}
 use Rattle.accept.specs.Verdicts.{third_of}
-use borrow.Author.Rules.{rules}
 use Rattle.accept.proofs.inner.third.Goals as goal
 
 pub returns : goal.returns

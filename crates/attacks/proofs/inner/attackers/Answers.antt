@@ -1,6 +1,5 @@
 -- `attacks::inner::attackers` meets its contract.
 use mathlib.Core.Path.{◌∙◌}
-use borrow.Author.Rules.{rules}
 use Rattle.attacks.proofs.Meets.{met_is}
 use Rattle.attacks.proofs.inner.attackers.Goals as goal
 

@@ -1,5 +1,4 @@
 -- `attacks::inner::is_attacked` meets its contract.
-use borrow.Author.Rules.{rules}
 use Rattle.laws.specs.Attacks.{attacks_from, attackers_of}
 use Rattle.laws.specs.Boards.{men_at}
 use Rattle.squares.proofs.Every.{some_test}

@@ -1,6 +1,5 @@
 -- `attacks::inner::met` meets its contract.
 use mathlib.Core.Path.{refl}
-use borrow.Author.Rules.{rules}
 use Rattle.attacks.specs.inner.Meeting.{met_of}
 use Rattle.attacks.proofs.inner.met.Goals as goal
 

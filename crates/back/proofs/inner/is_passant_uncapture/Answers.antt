@@ -1,5 +1,4 @@
 -- `back::inner::is_passant_uncapture` meets its contract.
-use borrow.Author.Rules.{rules}
 use Rattle.squares.specs.Tests.{◌and◌}
 use Rattle.incremental.specs.Moved.{is_passant_uncapture}
 use Rattle.back.proofs.Places.{pawn_place}

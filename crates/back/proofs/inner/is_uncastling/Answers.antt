@@ -1,5 +1,4 @@
 -- `back::inner::is_uncastling` meets its contract.
-use borrow.Author.Rules.{rules}
 use Rattle.squares.specs.Tests.{◌and◌}
 use Rattle.incremental.specs.Moved.{is_uncastling}
 use Rattle.back.proofs.Places.{king_place}

@@ -1,5 +1,4 @@
 -- `back::inner::moved` meets its contract.
-use borrow.Author.Rules.{rules}
 use Rattle.incremental.specs.Moved.{rust_moved}
 use Rattle.back.proofs.inner.moved.Goals as goal
 

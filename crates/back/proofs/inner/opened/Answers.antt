@@ -1,5 +1,4 @@
 -- `back::inner::opened` meets its contract.
-use borrow.Author.Rules.{rules}
 use Rattle.incremental.specs.Moved.{opened_of}
 use Rattle.back.proofs.inner.opened.Goals as goal
 

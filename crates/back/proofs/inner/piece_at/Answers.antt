@@ -1,6 +1,5 @@
 -- `back::inner::piece_at` meets its contract.
 use mathlib.Core.Path.{◌∙◌, sym}
-use borrow.Author.Rules.{rules}
 use Rattle.incremental.specs.Moved.{piece_on}
 use Rattle.back.proofs.inner.piece_at.Goals as goal
 

@@ -1,6 +1,5 @@
 -- `back::inner::reborn` meets its contract.
 use mathlib.Core.Path.{◌∙◌, sym}
-use borrow.Author.Rules.{rules}
 use Rattle.incremental.specs.Moved.{passant_stored, reborn_of}
 use Rattle.back.proofs.inner.reborn.Goals as goal
 

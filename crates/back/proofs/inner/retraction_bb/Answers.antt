@@ -1,5 +1,4 @@
 -- `back::inner::retraction_bb` meets its contract.
-use borrow.Author.Rules.{rules}
 use Rattle.back.proofs.inner.retraction_bb.Goals as goal
 
 pub returns : goal.returns

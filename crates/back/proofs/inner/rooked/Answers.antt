@@ -1,5 +1,4 @@
 -- `back::inner::rooked` meets its contract.
-use borrow.Author.Rules.{rules}
 use Rattle.incremental.specs.Moved.{rooked_of}
 use Rattle.back.proofs.inner.rooked.Goals as goal
 

@@ -1,6 +1,5 @@
 -- `back::inner::searched` meets its contract.
 use Rattle.incremental.specs.Found.{found_stored}
-use borrow.Author.Rules.{rules}
 use Rattle.back.proofs.inner.searched.Goals as goal
 
 pub returns : goal.returns

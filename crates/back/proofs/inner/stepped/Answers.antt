@@ -1,5 +1,4 @@
 -- `back::inner::stepped` meets its contract.
-use borrow.Author.Rules.{rules}
 use Rattle.incremental.specs.Moved.{stepped_of}
 use Rattle.back.proofs.inner.stepped.Goals as goal
 

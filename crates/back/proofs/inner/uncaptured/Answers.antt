@@ -1,6 +1,5 @@
 -- `back::inner::uncaptured` meets its contract.
 use mathlib.Core.Path.{◌∙◌, ap}
-use borrow.Author.Rules.{rules}
 use Rattle.laws.specs.Men.{Man}
 use Rattle.incremental.specs.Moved.{uncaptured_of}
 use Rattle.back.proofs.Places.{queen_numbered}

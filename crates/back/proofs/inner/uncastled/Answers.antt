@@ -1,6 +1,5 @@
 -- `back::inner::uncastled` meets its contract.
 use mathlib.Core.Path.{◌∙◌, sym}
-use borrow.Author.Rules.{rules}
 use borrow.Author.Tests.{ne_eqb}
 use Rattle.squares.specs.Squares.{file}
 use Rattle.incremental.specs.Moved.{uncastled_of}

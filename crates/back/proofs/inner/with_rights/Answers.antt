@@ -1,5 +1,4 @@
 -- `back::inner::with_rights` meets its contract.
-use borrow.Author.Rules.{rules}
 use Rattle.incremental.specs.Moved.{rights_stored}
 use Rattle.back.proofs.inner.with_rights.Goals as goal
 

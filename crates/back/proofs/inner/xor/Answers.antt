@@ -1,5 +1,4 @@
 -- `back::inner::xor` meets its contract.
-use borrow.Author.Rules.{rules}
 use Rattle.incremental.specs.Moved.{xor_of}
 use Rattle.back.proofs.inner.xor.Goals as goal
 

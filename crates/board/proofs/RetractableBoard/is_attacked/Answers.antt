@@ -1,7 +1,6 @@
 -- `board::RetractableBoard::is_attacked` meets its contract.
 use mathlib.Core.Path.{◌∙◌, ap}
 use mathlib.Core.Bool.{Bool}
-use borrow.Author.Rules.{rules}
 use Rattle.laws.specs.Attacks.{attacks_from, attackers_of}
 use Rattle.refusal.specs.Said.{behind}
 use Rattle.board.specs.declared.Attackers.TheVariants.{Set}

@@ -1,5 +1,4 @@
 -- `board::RetractableBoard::judge` meets its contract.
-use borrow.Author.Rules.{rules}
 use Rattle.board.specs.Gate.{gate_of, board_tests}
 use Rattle.board.proofs.Saying.{boards_by}
 use Rattle.board.proofs.Passing.{gate_number}

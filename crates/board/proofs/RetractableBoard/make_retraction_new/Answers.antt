@@ -1,7 +1,6 @@
 -- `board::RetractableBoard::make_retraction_new` meets its contract.
 use mathlib.Core.List.{◌++◌}
 use mathlib.Core.Path.{◌∙◌, sym, subst}
-use borrow.Author.Rules.{rules}
 use Rattle.board.specs.declared.Boarded.{Boarded}
 use Rattle.board.specs.Gate.{pos_on, board_tests}
 use Rattle.board.specs.Said.{Boards}

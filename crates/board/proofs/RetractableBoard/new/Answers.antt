@@ -1,7 +1,6 @@
 -- `board::RetractableBoard::new` meets its contract.
 use Rattle.board.specs.Gate.{position_from}
 use Rattle.board.proofs.Passing.{new_boards}
-use borrow.Author.Rules.{rules}
 use Rattle.board.proofs.RetractableBoard.new.Goals as goal
 
 pub returns : goal.returns

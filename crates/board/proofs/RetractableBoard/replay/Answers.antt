@@ -1,5 +1,4 @@
 -- `board::RetractableBoard::replay` meets its contract.
-use borrow.Author.Rules.{rules}
 use Rattle.refusal.specs.declared.Refusal.TheVariants.{Step}
 use Rattle.refusal.specs.declared.Verdict.TheVariants.{Accepted}
 use Rattle.refusal.specs.Refusals.{unless, and_then}

@@ -1,5 +1,4 @@
 -- `board::RetractableBoard::set_en_passant` meets its contract.
-use borrow.Author.Rules.{rules}
 use Rattle.board.specs.inner.Gates.{state_gate}
 use Rattle.board.specs.Answers.{state_tests, with_passant}
 use Rattle.board.proofs.Saying.{boards_by}

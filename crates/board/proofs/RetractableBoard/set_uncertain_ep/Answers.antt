@@ -1,5 +1,4 @@
 -- `board::RetractableBoard::set_uncertain_ep` meets its contract.
-use borrow.Author.Rules.{rules}
 use Rattle.laws.specs.Positions.{uncertain}
 use Rattle.board.specs.Gate.{gate_of, board_tests}
 use Rattle.board.specs.Answers.{with_passant}

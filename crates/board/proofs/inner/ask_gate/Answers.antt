@@ -1,7 +1,6 @@
 -- `board::inner::ask_gate` meets its contract.
 use mathlib.Core.Path.{◌∙◌, sym}
 use native.Mathlib.Omega.{arith}
-use borrow.Author.Rules.{rules}
 use borrow.Author.Tests.{lt-ltb, le-ltb}
 use Rattle.board.proofs.inner.ask_gate.Goals as goal
 

@@ -1,5 +1,4 @@
 -- `board::inner::board_by` meets its contract.
-use borrow.Author.Rules.{rules}
 use Rattle.board.proofs.inner.board_by.Goals as goal
 
 pub returns : goal.returns

@@ -1,5 +1,4 @@
 -- `board::inner::kept` meets its contract.
-use borrow.Author.Rules.{rules}
 use Rattle.board.proofs.inner.kept.Goals as goal
 
 pub returns-in-Refused : goal.returns-in-Refused

@@ -1,7 +1,6 @@
 -- `board::inner::stale` meets its contract.
 use Rattle.squares.specs.Tests.{◌and◌}
 use Rattle.board.specs.Gate.{fresh_on}
-use borrow.Author.Rules.{rules}
 use Rattle.board.proofs.inner.stale.Goals as goal
 
 pub returns : goal.returns

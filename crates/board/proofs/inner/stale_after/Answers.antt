@@ -1,6 +1,5 @@
 -- `board::inner::stale_after` meets its contract.
 use mathlib.Core.Path.{◌∙◌, sym}
-use borrow.Author.Rules.{rules}
 use Rattle.board.proofs.inner.stale_after.Goals as goal
 
 pub stale-requires : goal.stale-requires

@@ -1,5 +1,4 @@
 -- `board::inner::worked` meets its contract.
-use borrow.Author.Rules.{rules}
 use Rattle.board.proofs.inner.worked.Goals as goal
 
 pub returns : goal.returns

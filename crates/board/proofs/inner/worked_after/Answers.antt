@@ -1,6 +1,5 @@
 -- `board::inner::worked_after` meets its contract.
 use mathlib.Core.Path.{◌∙◌}
-use borrow.Author.Rules.{rules}
 use Rattle.board.proofs.inner.worked_after.Goals as goal
 
 pub worked-b-requires : goal.worked-b-requires

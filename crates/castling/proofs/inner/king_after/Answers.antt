@@ -1,6 +1,5 @@
 -- `castling::inner::king_after` meets its contract.
 use mathlib.Core.Path.{◌∙◌, sym}
-use borrow.Author.Rules.{rules}
 use Rattle.castling.proofs.inner.king_after.Goals as goal
 
 pub returns-then-stands : goal.returns-then-stands

@@ -1,6 +1,5 @@
 -- `castling::inner::kings_way` meets its contract.
 use mathlib.Core.Path.{◌∙◌, ap₂}
-use borrow.Author.Rules.{rules}
 use Rattle.laws.specs.Attacks.{attackers_of}
 use Rattle.laws.specs.Boards.{men_in}
 use Rattle.castling.proofs.inner.kings_way.Goals as goal

@@ -1,5 +1,4 @@
 -- `castling::inner::taken_back` meets its contract.
-use borrow.Author.Rules.{rules}
 use Rattle.castling.proofs.inner.taken_back.Goals as goal
 
 pub returns : goal.returns

@@ -1,8 +1,7 @@
 -- `chunks::inner::find` meets its contract.
-use mathlib.Core.Path.{◌≡◌, refl, ◌∙◌, sym}
-use Prim.Native.Nat.{◌-◌, ◌≤◌}
+use mathlib.Core.Path.{refl, ◌∙◌, sym}
+use Prim.Native.Nat.{◌-◌}
 use native.Mathlib.Omega.{arith}
-use Rattle.chunks.specs.Newlines.{stop_from}
 use Rattle.chunks.proofs.Cuts.{stop_here, stop_later, stop_end}
 use Rattle.chunks.proofs.inner.find.Goals as goal
 

@@ -1,8 +1,6 @@
-use mathlib.Core.Path.{◌≡◌, refl, ◌∙◌, sym}
+use mathlib.Core.Path.{◌≡◌}
 use Prim.Native.Nat.{◌-◌, ◌≤◌}
-use native.Mathlib.Omega.{arith}
 use Rattle.chunks.specs.Newlines.{stop_from}
-use Rattle.chunks.proofs.Cuts.{stop_here, stop_later, stop_end}
 use Rattle.chunks.proofs.inner.find.Given as goal
 
 abbrev pub invariant-loop-i : goal.invariant-loop-i

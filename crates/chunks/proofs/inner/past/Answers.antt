@@ -1,7 +1,6 @@
 -- `chunks::inner::past` meets its contract.
 use native.Mathlib.Omega.{arith}
 use borrow.Author.Tests.{lt-ltb, le-ltb}
-use borrow.Author.Rules.{rules}
 use Rattle.chunks.proofs.inner.past.Goals as goal
 
 pub returns-then-stop-end : goal.returns-then-stop-end

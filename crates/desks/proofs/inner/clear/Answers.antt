@@ -1,9 +1,9 @@
 -- `desks::inner::clear` meets its contract.
 use mathlib.Core.Path.{◌≡◌, refl}
-use Prim.Native.Nat.{◌≤◌, ◌-◌}
+use Prim.Native.Nat.{◌-◌}
 use native.Mathlib.Numerals.{add-one}
 use native.Mathlib.Omega.{arith}
-use lib.ListN.{length, length-set}
+use lib.ListN.{length-set}
 use Rattle.desks.specs.Calls.{cleared}
 use Rattle.desks.proofs.inner.clear.Goals as goal
 

@@ -1,6 +1,5 @@
 -- `desks::inner::drop_at` meets its contract.
 use Rattle.desks.proofs.Calling.{past_free, unmarked_free, marked_held, drop_absent, drop_held}
-use borrow.Author.Rules.{rules}
 use Rattle.desks.proofs.inner.drop_at.Goals as goal
 
 pub returns-then-n-number : goal.returns-then-n-number

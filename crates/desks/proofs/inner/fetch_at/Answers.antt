@@ -1,6 +1,5 @@
 -- `desks::inner::fetch_at` meets its contract.
 use Rattle.desks.proofs.Calling.{past_free, unmarked_free, marked_held, fetch_absent, fetch_held}
-use borrow.Author.Rules.{rules}
 use Rattle.desks.proofs.inner.fetch_at.Goals as goal
 
 pub returns-then-n-number : goal.returns-then-n-number

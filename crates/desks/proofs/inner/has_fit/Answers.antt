@@ -1,7 +1,6 @@
 -- `desks::inner::has_fit` meets its contract.
 use Rattle.desks.specs.Layout.{fits}
 use Rattle.desks.proofs.Room.{room_short}
-use borrow.Author.Rules.{rules}
 use Rattle.desks.proofs.inner.has_fit.Goals as goal
 
 pub returns-then-n-lt-HEAD : goal.returns-then-n-lt-HEAD

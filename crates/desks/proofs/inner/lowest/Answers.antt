@@ -1,7 +1,7 @@
 -- `desks::inner::lowest` meets its contract.
-use Prim.Native.Nat.{◌-◌, ◌≤◌}
+use Prim.Native.Nat.{◌-◌}
 use native.Mathlib.Omega.{arith}
-use Rattle.desks.proofs.Calling.{Passed, low_start, low_found, low_next, low_none}
+use Rattle.desks.proofs.Calling.{low_start, low_found, low_next, low_none}
 use Rattle.desks.proofs.inner.lowest.Goals as goal
 
 pub loop-i-init : goal.loop-i-init

@@ -1,6 +1,5 @@
 use Prim.Native.Nat.{◌-◌, ◌≤◌}
-use native.Mathlib.Omega.{arith}
-use Rattle.desks.proofs.Calling.{Passed, low_start, low_found, low_next, low_none}
+use Rattle.desks.proofs.Calling.{Passed}
 use Rattle.desks.proofs.inner.lowest.Given as goal
 
 abbrev pub invariant-loop-i : goal.invariant-loop-i

@@ -1,5 +1,4 @@
 -- `desks::inner::not_fetched` meets its contract.
-use borrow.Author.Rules.{rules}
 use Rattle.desks.proofs.inner.not_fetched.Goals as goal
 
 pub returns : goal.returns

@@ -1,6 +1,5 @@
 -- `desks::inner::put_at` meets its contract.
 use Rattle.desks.proofs.Calling.{put_done, put_full}
-use borrow.Author.Rules.{rules}
 use Rattle.desks.proofs.inner.put_at.Goals as goal
 
 pub returns-then-i-n : goal.returns-then-i-n

@@ -1,10 +1,9 @@
 -- `desks::inner::stand` meets its contract.
 use mathlib.Core.Path.{◌≡◌, sym, ◌∙◌}
-use borrow.Author.Tests.{lt-ltb, le-ltb, not-true, not-false}
+use borrow.Author.Tests.{lt-ltb, le-ltb}
 use native.Mathlib.Omega.{arith}
 use Rattle.desks.specs.inner.Within.{stand_of}
 use Rattle.desks.proofs.Room.{fit_room}
-use borrow.Author.Rules.{rules}
 use Rattle.desks.proofs.inner.stand.Goals as goal
 
 pub returns-then-desk-gt1 : goal.returns-then-desk-gt1

@@ -1,5 +1,4 @@
 -- `desks::inner::stand_behind` meets its contract.
-use borrow.Author.Rules.{rules}
 use Rattle.desks.proofs.inner.stand_behind.Goals as goal
 
 pub returns-in-Refused : goal.returns-in-Refused

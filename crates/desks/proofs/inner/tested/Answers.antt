@@ -1,6 +1,5 @@
 -- `desks::inner::tested` meets its contract.
 use Rattle.desks.proofs.Calling.{tested_refused, tested_done}
-use borrow.Author.Rules.{rules}
 use Rattle.desks.proofs.inner.tested.Goals as goal
 
 pub returns-in-Refused : goal.returns-in-Refused

@@ -1,10 +1,8 @@
 -- `desks_verb::inner::put_calls` meets its contract.
-use mathlib.Core.Path.{◌≡◌, refl}
+use mathlib.Core.Path.{refl}
 use Prim.Native.Nat.{◌-◌}
 use native.Mathlib.Omega.{arith}
-use lib.ListN.{length}
 use borrow.Author.Rules.{rules}
-use Rattle.puts.specs.inner.Growing.{Grows}
 use Rattle.desks_verb.proofs.inner.put_calls.Goals as goal
 
 pub past-i-requires : goal.past-i-requires

@@ -1,9 +1,6 @@
 -- `desks_verb::inner::put_words` meets its contract.
 use Prim.Native.Nat.{◌-◌}
 use native.Mathlib.Omega.{arith}
-use lib.ListN.{length}
-use borrow.Author.Rules.{rules}
-use Rattle.puts.specs.inner.Growing.{Grows}
 use Rattle.desks_verb.proofs.inner.put_words.Goals as goal
 
 pub loop-i-init : goal.loop-i-init

@@ -1,6 +1,5 @@
 -- `diagram::inner::letter` meets its contract.
 use mathlib.Core.Path.{sym, ◌∙◌}
-use borrow.Author.Rules.{rules}
 use Rattle.laws.specs.Boards.{men_at}
 use Rattle.diagram.proofs.Drawn.{shown_none, shown_some}
 use Rattle.diagram.proofs.inner.letter.Goals as goal

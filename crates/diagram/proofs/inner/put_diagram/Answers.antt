@@ -1,6 +1,5 @@
 -- `diagram::inner::put_diagram` meets its contract.
 use native.Mathlib.Omega.{arith}
-use borrow.Author.Rules.{rules}
 use Rattle.words.specs.Words.{bytes_in}
 use Rattle.diagram.specs.Diagrams.{diagram_of}
 use Rattle.words.proofs.Chained.{ends, four_added}

@@ -1,6 +1,5 @@
 -- `diagram::inner::put_rank` meets its contract.
 use native.Mathlib.Omega.{arith}
-use borrow.Author.Rules.{rules}
 use Rattle.words.specs.Words.{bytes_in}
 use Rattle.words.proofs.Chained.{ends, three_added}
 use Rattle.diagram.proofs.Drawn.{rank_length}

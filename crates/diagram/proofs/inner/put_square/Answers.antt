@@ -1,5 +1,4 @@
 -- `diagram::inner::put_square` meets its contract.
-use borrow.Author.Rules.{rules}
 use Rattle.output.proofs.Adding.{adds_as}
 use Rattle.diagram.proofs.inner.put_square.Goals as goal
 

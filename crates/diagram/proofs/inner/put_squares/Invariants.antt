@@ -1,13 +1,9 @@
-use mathlib.Core.Path.{◌≡◌, refl}
+use mathlib.Core.Path.{◌≡◌}
 use Prim.Native.Nat.{◌+◌, ◌-◌, ◌*◌, ◌≤◌}
-use native.Mathlib.Omega.{arith}
 use lib.ListN.{length, take}
-use borrow.Author.Rules.{rules}
 use Rattle.squares.specs.Members.{concat}
 use Rattle.output.specs.Appending.{Adds}
-use Rattle.output.proofs.Adding.{adds_nothing}
 use Rattle.diagram.specs.Diagrams.{square_text, eight}
-use Rattle.diagram.proofs.Drawn.{eight_next, eight_all, squares_length}
 use Rattle.diagram.proofs.inner.put_squares.Given as goal
 
 abbrev pub invariant-loop-file : goal.invariant-loop-file

@@ -1,6 +1,5 @@
 -- `double_step::inner::unstepped` meets its contract.
 use Rattle.double_step.proofs.PutBack.{lifted_clean, put_back}
-use borrow.Author.Rules.{rules}
 use Rattle.double_step.proofs.inner.unstepped.Goals as goal
 
 pub put_man-requires : goal.put_man-requires

@@ -1,6 +1,5 @@
 -- `double_step::inner::waited_unattacked` meets its contract.
 use Rattle.double_step.proofs.PutBack.{on_board, on_fourth, before_clean, before_kings, step_told}
-use borrow.Author.Rules.{rules}
 use Rattle.double_step.proofs.inner.waited_unattacked.Goals as goal
 
 pub unstepped-before-requires : goal.unstepped-before-requires

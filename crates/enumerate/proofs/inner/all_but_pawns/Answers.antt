@@ -1,5 +1,4 @@
 -- `enumerate::inner::all_but_pawns` meets its contract.
-use borrow.Author.Rules.{rules}
 use Rattle.retraction_list.proofs.Answers.{is_full, is_held}
 use Rattle.enumerate.proofs.inner.all_but_pawns.Goals as goal
 

@@ -1,6 +1,5 @@
 -- `enumerate::inner::by_checkers` meets its contract.
 use borrow.Author.Tests.{lt-ltb, le-ltb}
-use borrow.Author.Rules.{rules}
 use Rattle.retraction_list.specs.inner.Pushing.{pushed_all}
 use Rattle.enumerate.specs.Lists.{by_checkers}
 use Rattle.enumerate.proofs.inner.by_checkers.Goals as goal

@@ -1,5 +1,4 @@
 -- `enumerate::inner::enumerate` meets its contract.
-use borrow.Author.Rules.{rules}
 use Rattle.retraction_list.proofs.Answers.{is_full, is_held}
 use Rattle.enumerate.proofs.inner.enumerate.Goals as goal
 

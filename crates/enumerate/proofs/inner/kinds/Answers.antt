@@ -1,6 +1,5 @@
 -- `enumerate::inner::kinds` meets its contract.
 use borrow.Author.Tests.{eq-eqb, ne_eqb}
-use borrow.Author.Rules.{rules}
 use Rattle.enumerate.specs.Lists.{kinds_of}
 use Rattle.retraction_list.proofs.Pushing.{pushed_both}
 use Rattle.enumerate.proofs.inner.kinds.Goals as goal

@@ -1,5 +1,4 @@
 -- `enumerate::inner::lesser` meets its contract.
-use borrow.Author.Rules.{rules}
 use Rattle.enumerate.specs.Lists.{lesser_of}
 use Rattle.retraction_list.proofs.Pushing.{pushed_both}
 use Rattle.enumerate.proofs.inner.lesser.Goals as goal

@@ -1,5 +1,4 @@
 -- `enumerate::inner::listed` meets its contract.
-use borrow.Author.Rules.{rules}
 use Rattle.enumerate.specs.Lists.{list_of}
 use Rattle.enumerate.proofs.inner.listed.Goals as goal
 

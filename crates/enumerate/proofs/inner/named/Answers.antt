@@ -1,5 +1,4 @@
 -- `enumerate::inner::named` meets its contract.
-use borrow.Author.Rules.{rules}
 use Rattle.enumerate.specs.Lists.{named_of}
 use Rattle.enumerate.proofs.inner.named.Goals as goal
 

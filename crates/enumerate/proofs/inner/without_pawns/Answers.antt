@@ -1,5 +1,4 @@
 -- `enumerate::inner::without_pawns` meets its contract.
-use borrow.Author.Rules.{rules}
 use Rattle.enumerate.specs.Lists.{all_but_pawns}
 use Rattle.retraction_list.proofs.Pushing.{pushed_both}
 use Rattle.enumerate.proofs.inner.without_pawns.Goals as goal

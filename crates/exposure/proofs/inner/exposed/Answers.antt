@@ -7,7 +7,6 @@ use Rattle.laws.specs.Attacks.{attacks, attackers_of}
 use Rattle.laws.specs.Boards.{men_in}
 use Rattle.squares.proofs.Comprehension.{or_set_of}
 use Rattle.exposure.specs.inner.Exposing.{exposed_at}
-use borrow.Author.Rules.{rules}
 use Rattle.exposure.proofs.inner.exposed.Goals as goal
 
 pub returns : goal.returns

@@ -1,10 +1,6 @@
-use native.Mathlib.Omega.{arith}
 use mathlib.Core.Bool.{not}
-use borrow.Author.Rules.{rules}
 use Rattle.geometry.specs.Lines.{between}
-use Rattle.squares.proofs.Members.{lowest_lt}
-use Rattle.squares.proofs.Unions.{Uniting, unite_start, unite_turn, unite_less, unite_end}
-use Rattle.exposure.proofs.Seen.{off_between}
+use Rattle.squares.proofs.Unions.{Uniting}
 use Rattle.exposure.proofs.inner.leaving_open.Given as goal
 
 abbrev pub invariant-loop-left : goal.invariant-loop-left

@@ -3,7 +3,6 @@ use mathlib.Core.Path.{◌∙◌}
 use native.Mathlib.Omega.{arith}
 use Rattle.laws.specs.Boards.{men_in}
 use Rattle.exposure.proofs.Seen.{none_seen, pawn_seen, knight_seen, bishop_seen, rook_seen, queen_seen, king_seen}
-use borrow.Author.Rules.{rules}
 use Rattle.exposure.proofs.inner.seen_from.Goals as goal
 
 pub returns-then-kind-eq1 : goal.returns-then-kind-eq1

@@ -1,8 +1,5 @@
 -- `fields::inner::number_in` meets its contract.
 use Prim.Native.Nat.{◌-◌}
-use native.Mathlib.Omega.{arith}
-use lib.ListN.{length}
-use borrow.Author.Rules.{rules}
 use Rattle.fields.proofs.inner.number_in.Goals as goal
 
 pub loop-i-init : goal.loop-i-init

@@ -1,7 +1,6 @@
 -- `fields::inner::past` meets its contract.
 use Prim.Native.Nat.{◌-◌}
 use native.Mathlib.Omega.{arith}
-use Rattle.fields.specs.inner.Places.{Onward}
 use Rattle.fields.proofs.inner.past.Goals as goal
 
 pub loop-i-init : goal.loop-i-init

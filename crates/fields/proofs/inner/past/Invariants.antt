@@ -1,5 +1,4 @@
 use Prim.Native.Nat.{◌-◌}
-use native.Mathlib.Omega.{arith}
 use Rattle.fields.specs.inner.Places.{Onward}
 use Rattle.fields.proofs.inner.past.Given as goal
 

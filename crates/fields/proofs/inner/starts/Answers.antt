@@ -1,7 +1,5 @@
 -- `fields::inner::starts` meets its contract.
 use Prim.Native.Nat.{◌-◌}
-use native.Mathlib.Omega.{arith}
-use lib.ListN.{length}
 use Rattle.fields.proofs.inner.starts.Goals as goal
 
 pub loop-i-init : goal.loop-i-init

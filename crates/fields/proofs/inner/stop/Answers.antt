@@ -1,8 +1,6 @@
 -- `fields::inner::stop` meets its contract.
 use Prim.Native.Nat.{◌-◌}
 use native.Mathlib.Omega.{arith}
-use lib.ListN.{length}
-use Rattle.fields.specs.inner.Places.{Onward}
 use Rattle.fields.proofs.inner.stop.Goals as goal
 
 pub loop-i-init : goal.loop-i-init

@@ -1,5 +1,4 @@
 use Prim.Native.Nat.{◌-◌}
-use native.Mathlib.Omega.{arith}
 use lib.ListN.{length}
 use Rattle.fields.specs.inner.Places.{Onward}
 use Rattle.fields.proofs.inner.stop.Given as goal

@@ -2,7 +2,6 @@
 use mathlib.Core.Path.{refl}
 use Prim.Native.Nat.{◌<◌}
 use native.Mathlib.Omega.{arith}
-use borrow.Author.Rules.{rules}
 use Rattle.geometry.specs.declared.Color.TheVariants.{White, Black}
 use Rattle.geometry.specs.Colors.{rank_for}
 use Rattle.geometry.proofs.Behind.{behind_in}

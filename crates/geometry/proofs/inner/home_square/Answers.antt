@@ -1,7 +1,6 @@
 -- `geometry::inner::home_square` meets its contract.
 use mathlib.Core.Path.{refl}
 use native.Mathlib.Omega.{arith}
-use borrow.Author.Rules.{rules}
 use Rattle.geometry.proofs.inner.home_square.Goals as goal
 
 pub returns-in-Black : goal.returns-in-Black

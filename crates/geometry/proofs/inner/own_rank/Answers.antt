@@ -1,5 +1,4 @@
 -- `geometry::inner::own_rank` meets its contract.
-use borrow.Author.Rules.{rules}
 use Rattle.geometry.proofs.inner.own_rank.Goals as goal
 
 pub returns-in-Black : goal.returns-in-Black

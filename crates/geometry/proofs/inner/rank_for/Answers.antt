@@ -1,5 +1,4 @@
 -- `geometry::inner::rank_for` meets its contract.
-use borrow.Author.Rules.{rules}
 use Rattle.geometry.proofs.inner.rank_for.Goals as goal
 
 pub returns-in-White : goal.returns-in-White

@@ -1,6 +1,5 @@
 -- `geometry::inner::ubackward` meets its contract.
 use native.Mathlib.Omega.{arith}
-use borrow.Author.Rules.{rules}
 use Rattle.geometry.specs.Colors.{back_of}
 use Rattle.geometry.proofs.inner.ubackward.Goals as goal
 

@@ -2,7 +2,6 @@
 use mathlib.Core.Path.{sym, ◌∙◌}
 use native.Mathlib.Omega.{arith}
 use Rattle.history.proofs.Answering.{told_refused, told_depth, told_yes, told_no}
-use borrow.Author.Rules.{rules}
 use Rattle.history.proofs.inner.history_of.Goals as goal
 
 pub returns-then-depth-lt1 : goal.returns-then-depth-lt1

@@ -1,9 +1,6 @@
 -- The plies meet their contracts. The measure of each is the depth.
-use mathlib.Core.Path.{◌≡◌}
-use Prim.Native.Nat.{ℕ, ◌<◌, ◌≤◌, ◌-◌}
+use Prim.Native.Nat.{◌-◌}
 use native.Mathlib.Omega.{arith}
-use borrow.Author.Rules.{rules}
-use Rattle.history.specs.inner.Searching.{NoneBelow}
 use Rattle.history.proofs.Searching.{told_none, none_below, at_end, found_is, ended, never_refused, place_on, asks_earlier, yes_with, no_with}
 use Rattle.history.proofs.plies.+black_ply_white_ply.Goals as goal
 

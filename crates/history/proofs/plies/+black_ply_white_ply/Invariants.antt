@@ -1,5 +1,5 @@
 use mathlib.Core.Path.{◌≡◌}
-use Prim.Native.Nat.{ℕ, ◌<◌, ◌≤◌, ◌-◌}
+use Prim.Native.Nat.{◌≤◌, ◌-◌}
 use Rattle.history.specs.inner.Searching.{NoneBelow}
 use Rattle.history.proofs.plies.+black_ply_white_ply.Given as goal
 

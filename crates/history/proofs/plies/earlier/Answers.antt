@@ -1,6 +1,5 @@
 -- `history::plies::earlier` meets its contract.
 use Rattle.chains.proofs.Boards.{past_passes}
-use borrow.Author.Rules.{rules}
 use Rattle.history.proofs.plies.earlier.Goals as goal
 
 pub unmade-requires : goal.unmade-requires

@@ -2,7 +2,6 @@
 use mathlib.Core.Path.{ap}
 use Rattle.laws.specs.declared.ChessRetraction.{ChessRetraction}
 use Rattle.history.specs.declared.History.{History}
-use borrow.Author.Rules.{rules}
 use Rattle.history.proofs.plies.no_plies.Goals as goal
 
 pub returns : goal.returns

@@ -1,6 +1,5 @@
 -- `history_reply::inner::answer` meets its contract.
 use Rattle.history_reply.proofs.Spoken.{text_refused, text_told}
-use borrow.Author.Rules.{rules}
 use Rattle.history_reply.proofs.inner.answer.Goals as goal
 
 pub returns-in-Refused : goal.returns-in-Refused

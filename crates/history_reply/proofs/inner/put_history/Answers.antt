@@ -1,7 +1,6 @@
 -- `history_reply::inner::put_history` meets its contract.
 use Rattle.output.proofs.Added.{used_adds}
 use Rattle.history_reply.proofs.Shown.{past_depth, under_room, past_shown, none_shown, refused_shown}
-use borrow.Author.Rules.{rules}
 use Rattle.history_reply.proofs.inner.put_history.Goals as goal
 
 pub put_plies-requires : goal.put_plies-requires

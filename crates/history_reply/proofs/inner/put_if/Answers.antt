@@ -1,6 +1,5 @@
 -- `history_reply::inner::put_if` meets its contract.
 use Rattle.output.proofs.Adding.{adds_nothing}
-use borrow.Author.Rules.{rules}
 use Rattle.history_reply.proofs.inner.put_if.Goals as goal
 
 pub returns-then-there : goal.returns-then-there

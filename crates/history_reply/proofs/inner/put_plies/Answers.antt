@@ -2,7 +2,6 @@
 use native.Mathlib.Omega.{arith}
 use lib.Dec.{leb}
 use Rattle.history_reply.proofs.Shown.{behind_ply, behind_if, plies_added}
-use borrow.Author.Rules.{rules}
 use Rattle.history_reply.proofs.inner.put_plies.Goals as goal
 
 pub put_if-second-requires : goal.put_if-second-requires

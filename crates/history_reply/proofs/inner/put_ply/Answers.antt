@@ -1,7 +1,6 @@
 -- `history_reply::inner::put_ply` meets its contract.
 use Rattle.output.proofs.Added.{used_adds}
 use Rattle.history_reply.proofs.Shown.{ply_added}
-use borrow.Author.Rules.{rules}
 use Rattle.history_reply.proofs.inner.put_ply.Goals as goal
 
 pub returns : goal.returns

@@ -3,7 +3,6 @@ use mathlib.Core.Path.{sym}
 use native.Mathlib.Omega.{arith}
 use lib.Seq.{length-take-le}
 use Rattle.history_reply.proofs.Spoken.{no_depth, no_number, answered}
-use borrow.Author.Rules.{rules}
 use Rattle.history_reply.proofs.inner.reply.Goals as goal
 
 pub returns-then-j-eq0 : goal.returns-then-j-eq0

@@ -1,5 +1,4 @@
 -- `kings::inner::castled` meets its contract.
-use borrow.Author.Rules.{rules}
 use Rattle.squares.specs.Tests.{◌and◌, ◌or◌}
 use Rattle.kings.specs.Kings.{castled_of}
 use Rattle.kings.proofs.inner.castled.Goals as goal

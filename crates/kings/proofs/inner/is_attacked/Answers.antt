@@ -1,6 +1,5 @@
 -- `kings::inner::is_attacked` meets its contract.
-use mathlib.Core.Path.{sym, ◌∙◌}
-use borrow.Author.Rules.{rules}
+use mathlib.Core.Path.{sym}
 use Rattle.kings.proofs.Attacked.{same_attack}
 use Rattle.kings.proofs.inner.is_attacked.Goals as goal
 

@@ -1,5 +1,4 @@
 -- `kings::inner::legals` meets its contract.
-use borrow.Author.Rules.{rules}
 use Rattle.retraction_list.specs.inner.Pushing.{pushed_all}
 use Rattle.kings.specs.Kings.{king_of}
 use Rattle.retraction_list.proofs.Pushing.{pushed_both}

@@ -1,5 +1,4 @@
 -- `kings::inner::long` meets its contract.
-use borrow.Author.Rules.{rules}
 use Rattle.squares.specs.Tests.{◌and◌}
 use Rattle.kings.specs.Kings.{long_of}
 use Rattle.kings.proofs.inner.long.Goals as goal

@@ -1,5 +1,4 @@
 -- `kings::inner::safe` meets its contract.
-use borrow.Author.Rules.{rules}
 use Rattle.squares.specs.Tests.{◌and◌}
 use Rattle.kings.specs.Kings.{safe_of}
 use Rattle.kings.proofs.inner.safe.Goals as goal

@@ -1,5 +1,4 @@
 -- `kings::inner::short` meets its contract.
-use borrow.Author.Rules.{rules}
 use Rattle.squares.specs.Tests.{◌and◌}
 use Rattle.kings.specs.Kings.{short_of}
 use Rattle.kings.proofs.inner.short.Goals as goal

@@ -1,5 +1,4 @@
 -- `kings::inner::stepped` meets its contract.
-use borrow.Author.Rules.{rules}
 use Rattle.kings.specs.Kings.{stepped_of}
 use Rattle.retraction_list.proofs.Pushing.{pushed_both}
 use Rattle.kings.proofs.inner.stepped.Goals as goal

@@ -1,6 +1,5 @@
 -- `kings::inner::steps` meets its contract.
 use borrow.Author.Tests.{eq-eqb, ne_eqb}
-use borrow.Author.Rules.{rules}
 use Rattle.kings.specs.Kings.{steps_of}
 use Rattle.kings.proofs.inner.steps.Goals as goal
 

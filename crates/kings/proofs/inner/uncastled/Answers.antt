@@ -1,5 +1,4 @@
 -- `kings::inner::uncastled` meets its contract.
-use borrow.Author.Rules.{rules}
 use Rattle.squares.specs.Tests.{◌or◌}
 use Rattle.retraction_list.specs.inner.Pushing.{pushed_all}
 use Rattle.kings.specs.Kings.{uncastled_of}

@@ -1,6 +1,5 @@
 -- `laws::inner::pack` meets its contract.
 use native.Mathlib.Omega.{arith}
-use borrow.Author.Rules.{rules}
 use Rattle.laws.proofs.Packing.{byte_lt}
 use Rattle.laws.proofs.inner.pack.Goals as goal
 

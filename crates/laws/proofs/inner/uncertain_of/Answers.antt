@@ -1,6 +1,5 @@
 -- `laws::inner::uncertain_of` meets its contract.
 use mathlib.Core.Path.{refl}
-use borrow.Author.Rules.{rules}
 use Rattle.laws.proofs.inner.uncertain_of.Goals as goal
 
 pub returns-in-Any : goal.returns-in-Any

@@ -1,7 +1,6 @@
 -- `listing::inner::at` meets its contract.
 use mathlib.Core.Path.{ap}
 use mir.Val.{bool_byte}
-use borrow.Author.Rules.{rules}
 use Rattle.laws.proofs.Packing.{byte_lt}
 use Rattle.listing.proofs.inner.at.Goals as goal
 

@@ -1,10 +1,8 @@
 -- `listing::inner::count` meets its contract.
-use mathlib.Core.Path.{◌≡◌, ap}
-use Prim.Native.Nat.{◌+◌, ◌-◌, ◌≤◌}
+use mathlib.Core.Path.{ap}
+use Prim.Native.Nat.{◌-◌}
 use native.Mathlib.Omega.{arith}
-use lib.ListN.{length, drop}
-use Rattle.retraction_gen.specs.Sequence.{sequence_of}
-use Rattle.listing.specs.inner.Giving.{entries_of}
+use lib.ListN.{length}
 use Rattle.listing.proofs.Walking.{list_counts, list_over}
 use Rattle.listing.proofs.inner.count.Goals as goal
 

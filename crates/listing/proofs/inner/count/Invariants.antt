@@ -1,10 +1,8 @@
-use mathlib.Core.Path.{◌≡◌, ap}
+use mathlib.Core.Path.{◌≡◌}
 use Prim.Native.Nat.{◌+◌, ◌-◌, ◌≤◌}
-use native.Mathlib.Omega.{arith}
 use lib.ListN.{length, drop}
 use Rattle.retraction_gen.specs.Sequence.{sequence_of}
 use Rattle.listing.specs.inner.Giving.{entries_of}
-use Rattle.listing.proofs.Walking.{list_counts, list_over}
 use Rattle.listing.proofs.inner.count.Given as goal
 
 abbrev pub invariant-loop-i : goal.invariant-loop-i

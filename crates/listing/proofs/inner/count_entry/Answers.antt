@@ -2,7 +2,6 @@
 use mathlib.Core.Path.{sym, ap, ap₂, ◌∙◌}
 use Prim.Native.Nat.{◌*◌}
 use native.Mathlib.Omega.{arith}
-use borrow.Author.Rules.{rules}
 use Rattle.squares.specs.Squares.{size}
 use Rattle.listing.proofs.Lengths.{entry_length, product_le}
 use Rattle.listing.proofs.inner.count_entry.Goals as goal

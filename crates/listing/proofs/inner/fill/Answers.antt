@@ -1,10 +1,7 @@
 -- `listing::inner::fill` meets its contract.
-use Prim.Native.Nat.{◌-◌, ◌≤◌}
+use Prim.Native.Nat.{◌-◌}
 use native.Mathlib.Omega.{arith}
-use lib.ListN.{drop}
-use Rattle.retraction_gen.specs.Sequence.{sequence_of}
-use Rattle.listing.specs.inner.Giving.{entries_of}
-use Rattle.listing.proofs.Filling.{Filling, filling_starts, filling_on, filling_done}
+use Rattle.listing.proofs.Filling.{filling_starts, filling_on, filling_done}
 use Rattle.listing.proofs.Walking.{list_after, list_room, list_source, list_over}
 use Rattle.listing.proofs.inner.fill.Goals as goal
 

@@ -1,13 +1,10 @@
 -- `listing::inner::fill_target` meets its contract.
 use mathlib.Core.Path.{refl, ap}
-use Prim.Native.Nat.{◌<◌}
 use native.Mathlib.Nat.{lt_trans}
 use native.Mathlib.Omega.{arith}
 use lib.ListN.{length}
-use borrow.Author.Rules.{rules}
-use Rattle.listing.specs.inner.Giving.{of_target}
 use Rattle.squares.proofs.Members.{going_less}
-use Rattle.listing.proofs.Filling.{Filling, filling_starts, filling_on, filling_done, fills_one}
+use Rattle.listing.proofs.Filling.{filling_starts, filling_on, filling_done, fills_one}
 use Rattle.listing.proofs.Walking.{below_fits, target_after, target_over, in_range}
 use Rattle.listing.proofs.inner.fill_target.Goals as goal
 

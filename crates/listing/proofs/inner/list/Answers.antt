@@ -1,6 +1,5 @@
 -- `listing::inner::list` meets its contract.
 use mathlib.Core.Path.{ap, ◌∙◌}
-use borrow.Author.Rules.{rules}
 use Rattle.uncaptured.specs.Masks.{masks_of}
 use Rattle.retraction_gen.specs.Making.{masks_on}
 use Rattle.listing.proofs.Told.{full_told, list_ready, told}

@@ -1,6 +1,5 @@
 -- `listing::inner::list_from` meets its contract.
 use native.Mathlib.Omega.{arith}
-use borrow.Author.Rules.{rules}
 use Rattle.retraction_gen.specs.Sequence.{sequence_of}
 use Rattle.listing.specs.inner.Giving.{entries_of}
 use Rattle.slots.proofs.Telling.{listed_roomless, listed_written}

@@ -1,7 +1,6 @@
 -- `listing::inner::retractions_into` meets its contract.
 use mathlib.Core.Path.{sym, ◌∙◌}
 use Rattle.listing.proofs.Told.{gate_told}
-use borrow.Author.Rules.{rules}
 use Rattle.listing.proofs.inner.retractions_into.Goals as goal
 
 pub list-requires : goal.list-requires

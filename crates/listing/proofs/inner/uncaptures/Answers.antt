@@ -1,6 +1,5 @@
 -- `listing::inner::uncaptures` meets its contract.
 use mathlib.Core.Path.{sym}
-use borrow.Author.Rules.{rules}
 use Rattle.listing.proofs.Allowed.{uncaptures_are}
 use Rattle.listing.proofs.inner.uncaptures.Goals as goal
 

@@ -1,5 +1,4 @@
 -- `men::inner::bad_men` meets its contract.
-use borrow.Author.Rules.{rules}
 use Rattle.men.proofs.Having.{bad_men_is}
 use Rattle.men.proofs.inner.bad_men.Goals as goal
 

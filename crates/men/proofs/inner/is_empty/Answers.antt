@@ -1,5 +1,4 @@
 -- `men::inner::is_empty` meets its contract.
-use borrow.Author.Rules.{rules}
 use Rattle.men.proofs.Having.{empty_at}
 use Rattle.men.proofs.inner.is_empty.Goals as goal
 

@@ -1,5 +1,4 @@
 -- `men::inner::is_noted` meets its contract.
-use mathlib.Core.Path.{◌∙◌}
 use borrow.Author.Rules.{rules}
 use Rattle.men.specs.inner.Standing.{beside_of, noted_of}
 use Rattle.men.proofs.inner.is_noted.Goals as goal

@@ -1,6 +1,5 @@
 -- `men::inner::man_by` meets its contract.
 use native.Mathlib.Omega.{arith}
-use borrow.Author.Rules.{rules}
 use Rattle.men.proofs.inner.man_by.Goals as goal
 
 pub returns-then-white : goal.returns-then-white

@@ -1,5 +1,4 @@
 -- `men::inner::men_of` meets its contract.
-use borrow.Author.Rules.{rules}
 use Rattle.men.proofs.Having.{men_of_is}
 use Rattle.men.proofs.inner.men_of.Goals as goal
 

@@ -1,5 +1,4 @@
 -- `men::inner::next_to` meets its contract.
-use borrow.Author.Rules.{rules}
 use Rattle.men.proofs.Beside.{next_is}
 use Rattle.men.proofs.inner.next_to.Goals as goal
 

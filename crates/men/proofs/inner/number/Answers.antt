@@ -1,5 +1,4 @@
 -- `men::inner::number` meets its contract.
-use borrow.Author.Rules.{rules}
 use Rattle.laws.specs.Boards.{men_at}
 use Rattle.men.proofs.Having.{size_men_of}
 use Rattle.men.proofs.inner.number.Goals as goal

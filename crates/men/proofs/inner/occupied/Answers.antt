@@ -1,5 +1,4 @@
 -- `men::inner::occupied` meets its contract.
-use borrow.Author.Rules.{rules}
 use Rattle.men.proofs.Having.{union_is}
 use Rattle.men.proofs.inner.occupied.Goals as goal
 

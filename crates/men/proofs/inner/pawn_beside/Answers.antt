@@ -1,5 +1,4 @@
 -- `men::inner::pawn_beside` meets its contract.
-use borrow.Author.Rules.{rules}
 use Rattle.laws.specs.Boards.{men_at}
 use Rattle.men.proofs.Beside.{beside_is}
 use Rattle.men.proofs.inner.pawn_beside.Goals as goal

@@ -1,5 +1,4 @@
 -- `men::inner::stands` meets its contract.
-use borrow.Author.Rules.{rules}
 use Rattle.men.proofs.Having.{stands_at}
 use Rattle.men.proofs.inner.stands.Goals as goal
 

@@ -1,5 +1,4 @@
 -- `men_field::inner::flush` meets its contract.
-use borrow.Author.Rules.{rules}
 use Rattle.men_field.proofs.Adding.{flush_none, flush_some}
 use Rattle.men_field.proofs.inner.flush.Goals as goal
 

@@ -3,7 +3,6 @@ use borrow.Author.Tests.{lt-ltb, le-ltb}
 use Rattle.men_field.specs.inner.Letters.{belongs}
 use Rattle.squares.specs.Tests.{◌and◌}
 use Rattle.men_field.proofs.Belonging.{nobody}
-use borrow.Author.Rules.{rules}
 use Rattle.men_field.proofs.inner.is_in.Goals as goal
 
 pub returns-then-n-lt2 : goal.returns-then-n-lt2

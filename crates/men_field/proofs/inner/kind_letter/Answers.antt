@@ -1,7 +1,6 @@
 -- `men_field::inner::kind_letter` meets its contract.
 use mathlib.Core.Path.{sym, ◌∙◌}
 use native.Mathlib.Omega.{arith}
-use borrow.Author.Rules.{rules}
 use Rattle.men_field.proofs.inner.kind_letter.Goals as goal
 
 pub returns-then-has : goal.returns-then-has

@@ -2,7 +2,6 @@
 use mathlib.Core.Path.{sym, ap, ◌∙◌}
 use Prim.Native.Nat.{ℕ, ◌+◌}
 use Rattle.men_field.proofs.Shown.{white_letter, black_letter, no_letter}
-use borrow.Author.Rules.{rules}
 use Rattle.men_field.proofs.inner.letter_at.Goals as goal
 
 pub returns-then-has : goal.returns-then-has

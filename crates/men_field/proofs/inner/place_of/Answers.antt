@@ -1,7 +1,6 @@
 -- `men_field::inner::place_of` meets its contract.
 use mathlib.Core.Path.{refl}
 use native.Mathlib.Omega.{arith}
-use borrow.Author.Rules.{rules}
 use Rattle.men_field.specs.inner.Letters.{place_of}
 use Rattle.men_field.proofs.inner.place_of.Goals as goal
 

@@ -1,6 +1,5 @@
 -- `men_field::inner::put_man` meets its contract.
 use native.Mathlib.Omega.{arith}
-use borrow.Author.Rules.{rules}
 use Rattle.men_field.proofs.Adding.{man_none, man_some, flush_short}
 use Rattle.men_field.proofs.inner.put_man.Goals as goal
 

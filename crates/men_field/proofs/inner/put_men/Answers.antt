@@ -1,10 +1,9 @@
 -- `men_field::inner::put_men` meets its contract.
 use mathlib.Core.Path.{refl}
-use Prim.Native.Nat.{◌+◌, ◌-◌, ◌*◌, ◌≤◌}
+use Prim.Native.Nat.{◌-◌}
 use native.Mathlib.Omega.{arith}
-use borrow.Author.Rules.{rules}
 use Rattle.laws.specs.Boards.{men_at}
-use Rattle.men_field.proofs.Adding.{Ranks, ranks_first, ranks_next, ranks_done, rank_short}
+use Rattle.men_field.proofs.Adding.{ranks_first, ranks_next, ranks_done, rank_short}
 use Rattle.men_field.proofs.inner.put_men.Goals as goal
 
 pub put_rank-line-requires : goal.put_rank-line-requires

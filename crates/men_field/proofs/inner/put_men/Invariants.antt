@@ -1,9 +1,6 @@
-use mathlib.Core.Path.{refl}
 use Prim.Native.Nat.{◌+◌, ◌-◌, ◌*◌, ◌≤◌}
-use native.Mathlib.Omega.{arith}
-use borrow.Author.Rules.{rules}
 use Rattle.laws.specs.Boards.{men_at}
-use Rattle.men_field.proofs.Adding.{Ranks, ranks_first, ranks_next, ranks_done, rank_short}
+use Rattle.men_field.proofs.Adding.{Ranks}
 use Rattle.men_field.proofs.inner.put_men.Given as goal
 
 abbrev pub invariant-loop-rank : goal.invariant-loop-rank

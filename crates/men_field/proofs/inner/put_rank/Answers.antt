@@ -1,13 +1,8 @@
 -- `men_field::inner::put_rank` meets its contract.
-use mathlib.Core.List.{◌++◌}
-use Prim.Native.Nat.{◌+◌, ◌-◌, ◌*◌, ◌≤◌}
+use Prim.Native.Nat.{◌+◌, ◌-◌, ◌*◌}
 use native.Mathlib.Omega.{arith}
-use lib.ListN.{length}
-use borrow.Author.Rules.{rules}
 use Rattle.laws.specs.Boards.{men_at}
-use Rattle.men_field.specs.Placement.{rank_text}
-use Rattle.men_field.specs.inner.Lines.{text_of}
-use Rattle.men_field.proofs.Adding.{Coming, rank_first, coming_step, rank_done}
+use Rattle.men_field.proofs.Adding.{rank_first, coming_step, rank_done}
 use Rattle.men_field.proofs.inner.put_rank.Goals as goal
 
 pub loop-k-init : goal.loop-k-init

@@ -1,12 +1,10 @@
 use mathlib.Core.List.{◌++◌}
 use Prim.Native.Nat.{◌+◌, ◌-◌, ◌*◌, ◌≤◌}
-use native.Mathlib.Omega.{arith}
 use lib.ListN.{length}
-use borrow.Author.Rules.{rules}
 use Rattle.laws.specs.Boards.{men_at}
 use Rattle.men_field.specs.Placement.{rank_text}
 use Rattle.men_field.specs.inner.Lines.{text_of}
-use Rattle.men_field.proofs.Adding.{Coming, rank_first, coming_step, rank_done}
+use Rattle.men_field.proofs.Adding.{Coming}
 use Rattle.men_field.proofs.inner.put_rank.Given as goal
 
 abbrev pub invariant-loop-k : goal.invariant-loop-k

@@ -1,12 +1,7 @@
-use mathlib.Core.Bool.{Bool}
-use mathlib.Core.Path.{ap, ◌∙◌}
-use mathlib.Core.Logic.{⊎_elim}
-use Prim.Native.Nat.{ℕ, ◌-◌}
-use native.Mathlib.Omega.{arith}
+use Prim.Native.Nat.{◌-◌}
 use lib.ListN.{get_or}
-use borrow.Author.Rules.{rules}
 use Rattle.men_field.specs.inner.Letters.{place_of, belongs}
-use Rattle.squares.proofs.Collect.{Collected, collect_none, collect_yes, collect_no, collect_done}
+use Rattle.squares.proofs.Collect.{Collected}
 use Rattle.men_field.proofs.inner.set_of.Given as goal
 
 abbrev pub invariant-loop-k : goal.invariant-loop-k

@@ -1,6 +1,5 @@
 -- `men_field::inner::sets_of` meets its contract.
 use mathlib.Core.Path.{◌∙◌}
-use borrow.Author.Rules.{rules}
 use Rattle.geometry.specs.declared.Color.TheVariants.{White, Black}
 use Rattle.laws.specs.declared.Piece.TheVariants.{Pawn, Knight, Bishop, Rook, Queen, King}
 use Rattle.laws.specs.Boards.{kind_sets, color_sets}

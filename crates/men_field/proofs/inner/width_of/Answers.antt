@@ -1,7 +1,6 @@
 -- `men_field::inner::width_of` meets its contract.
 use native.Mathlib.Omega.{arith}
 use borrow.Author.Tests.{lt-ltb, le-ltb, le-leb, lt-leb}
-use borrow.Author.Rules.{rules}
 use Rattle.men_field.specs.inner.Letters.{width_of}
 use Rattle.men_field.proofs.inner.width_of.Goals as goal
 

@@ -1,6 +1,5 @@
 -- `moves::inner::castles` meets its contract.
 use Rattle.squares.specs.Tests.{◌and◌}
-use borrow.Author.Rules.{rules}
 use Rattle.moves.proofs.inner.castles.Goals as goal
 
 pub returns : goal.returns

@@ -1,6 +1,5 @@
 -- `moves::inner::goes` meets its contract.
 use Rattle.moves.specs.inner.Parts.{goes_for, moves_for}
-use borrow.Author.Rules.{rules}
 use Rattle.moves.proofs.inner.goes.Goals as goal
 
 pub returns-in-Plain : goal.returns-in-Plain

@@ -1,6 +1,5 @@
 -- `moves::inner::is_free` meets its contract.
 use mathlib.Core.Path.{◌∙◌}
-use borrow.Author.Rules.{rules}
 use Rattle.laws.specs.Boards.{men_in}
 use Rattle.moves.proofs.Steps.{clear_is}
 use Rattle.moves.proofs.inner.is_free.Goals as goal

@@ -1,6 +1,5 @@
 -- `moves::inner::is_named` meets its contract.
 use mathlib.Core.Path.{refl}
-use borrow.Author.Rules.{rules}
 use Rattle.moves.proofs.inner.is_named.Goals as goal
 
 pub returns-in-Any : goal.returns-in-Any

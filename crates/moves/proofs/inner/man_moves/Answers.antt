@@ -1,7 +1,6 @@
 -- `moves::inner::man_moves` meets its contract.
 use mathlib.Core.Path.{◌∙◌}
 use native.Mathlib.Omega.{arith}
-use borrow.Author.Rules.{rules}
 use Rattle.laws.specs.Boards.{men_in}
 use Rattle.position.specs.inner.Edits.{color_by}
 use Rattle.position.proofs.Editing.{man_split}

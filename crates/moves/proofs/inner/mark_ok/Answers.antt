@@ -1,5 +1,4 @@
 -- `moves::inner::mark_ok` meets its contract.
-use borrow.Author.Rules.{rules}
 use Rattle.squares.specs.Tests.{◌and◌}
 use Rattle.moves.proofs.inner.mark_ok.Goals as goal
 

@@ -1,6 +1,5 @@
 -- `moves::inner::pawn_moves` meets its contract.
 use mathlib.Core.Path.{◌∙◌}
-use borrow.Author.Rules.{rules}
 use Rattle.squares.specs.Tests.{◌and◌, ◌or◌}
 use Rattle.laws.specs.Boards.{men_in}
 use Rattle.moves.proofs.Steps.{pawn_takes_lem, pawn_goes}

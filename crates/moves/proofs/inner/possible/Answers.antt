@@ -1,7 +1,6 @@
 -- `moves::inner::possible` meets its contract.
 use mathlib.Core.Path.{◌∙◌, ap}
 use native.Mathlib.Omega.{arith}
-use borrow.Author.Rules.{rules}
 use Rattle.geometry.specs.declared.Color.{Color}
 use Rattle.laws.specs.Men.{man_number}
 use Rattle.laws.specs.Boards.{men_in, pos_at}

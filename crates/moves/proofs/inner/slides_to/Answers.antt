@@ -1,6 +1,5 @@
 -- `moves::inner::slides_to` meets its contract.
 use mathlib.Core.Path.{refl}
-use borrow.Author.Rules.{rules}
 use Rattle.squares.specs.Tests.{◌and◌, ◌or◌}
 use Rattle.moves.proofs.inner.slides_to.Goals as goal
 

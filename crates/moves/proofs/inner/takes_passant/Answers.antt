@@ -1,8 +1,6 @@
 -- `moves::inner::takes_passant` meets its contract.
 use mathlib.Core.Path.{◌∙◌, sym}
-use borrow.Author.Rules.{rules}
 use Rattle.geometry.specs.Steps.{pawn_takes}
-use Rattle.squares.proofs.Testing.{denied, granted}
 use Rattle.squares.proofs.Comprehension.{has_set_of}
 use Rattle.moves.proofs.Steps.{not_then, and_then, came_up}
 use Rattle.moves.proofs.inner.takes_passant.Goals as goal

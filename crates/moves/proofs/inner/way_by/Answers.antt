@@ -1,5 +1,4 @@
 -- `moves::inner::way_by` meets its contract.
-use borrow.Author.Rules.{rules}
 use Rattle.squares.specs.Tests.{◌and◌}
 use Rattle.squares.proofs.Testing.{left, right}
 use Rattle.moves.proofs.Steps.{not_home}

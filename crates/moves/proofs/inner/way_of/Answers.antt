@@ -1,6 +1,5 @@
 -- `moves::inner::way_of` meets its contract.
 use Rattle.moves.proofs.Steps.{way_is}
-use borrow.Author.Rules.{rules}
 use Rattle.moves.proofs.inner.way_of.Goals as goal
 
 pub returns : goal.returns

@@ -1,6 +1,5 @@
 -- `officers::inner::alone` meets its contract.
 use borrow.Author.Tests.{eq-eqb, ne_eqb}
-use borrow.Author.Rules.{rules}
 use Rattle.retraction_list.specs.inner.Pushing.{pushed_all}
 use Rattle.officers.specs.Officers.{alone_of}
 use Rattle.officers.proofs.inner.alone.Goals as goal

@@ -1,7 +1,6 @@
 -- `officers::inner::alone_at` meets its contract.
 use mathlib.Core.Path.{◌≡◌}
 use lib.Bits.{bit_and}
-use borrow.Author.Rules.{rules}
 use Rattle.squares.specs.Members.{compl}
 use Rattle.officers.specs.Officers.{quiet_of, alone_at}
 use Rattle.retraction_list.proofs.Pushing.{pushed_both}

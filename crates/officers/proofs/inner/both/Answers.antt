@@ -1,5 +1,4 @@
 -- `officers::inner::both` meets its contract.
-use borrow.Author.Rules.{rules}
 use Rattle.squares.specs.Tests.{◌and◌}
 use Rattle.retraction_list.specs.inner.Pushing.{pushed_all}
 use Rattle.officers.specs.Officers.{both_of}

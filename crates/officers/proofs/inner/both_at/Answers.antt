@@ -1,5 +1,4 @@
 -- `officers::inner::both_at` meets its contract.
-use borrow.Author.Rules.{rules}
 use Rattle.squares.specs.Tests.{◌and◌}
 use Rattle.officers.specs.Officers.{both_at}
 use Rattle.officers.proofs.inner.both_at.Goals as goal

@@ -1,5 +1,4 @@
 -- `officers::inner::calm` meets its contract.
-use borrow.Author.Rules.{rules}
 use Rattle.officers.specs.Officers.{calm_of}
 use Rattle.officers.proofs.inner.calm.Goals as goal
 

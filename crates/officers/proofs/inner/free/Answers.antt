@@ -1,6 +1,5 @@
 -- `officers::inner::free` meets its contract.
 use borrow.Author.Tests.{eq-eqb, ne_eqb}
-use borrow.Author.Rules.{rules}
 use Rattle.officers.specs.Officers.{free_of}
 use Rattle.officers.proofs.inner.free.Goals as goal
 

@@ -1,5 +1,4 @@
 -- `officers::inner::from` meets its contract.
-use borrow.Author.Rules.{rules}
 use Rattle.officers.specs.Officers.{from_of}
 use Rattle.officers.proofs.inner.from.Goals as goal
 

@@ -1,6 +1,5 @@
 -- `officers::inner::legals` meets its contract.
 use borrow.Author.Tests.{eq-eqb, ne_eqb}
-use borrow.Author.Rules.{rules}
 use Rattle.officers.specs.Officers.{officer_of}
 use Rattle.retraction_list.proofs.Pushing.{pushed_both}
 use Rattle.officers.proofs.inner.legals.Goals as goal

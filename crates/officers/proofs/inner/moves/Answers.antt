@@ -1,6 +1,5 @@
 -- `officers::inner::moves` meets its contract.
 use borrow.Author.Tests.{eq-eqb, ne_eqb}
-use borrow.Author.Rules.{rules}
 use Rattle.officers.specs.Officers.{moves_of}
 use Rattle.officers.proofs.Queens.{queen_is}
 use Rattle.officers.proofs.inner.moves.Goals as goal

@@ -1,5 +1,4 @@
 -- `officers::inner::quiet` meets its contract.
-use borrow.Author.Rules.{rules}
 use Rattle.officers.specs.Officers.{quiet_of}
 use Rattle.officers.proofs.inner.quiet.Goals as goal
 

@@ -1,5 +1,4 @@
 -- `officers::inner::steps` meets its contract.
-use borrow.Author.Rules.{rules}
 use Rattle.officers.specs.Officers.{steps_of}
 use Rattle.officers.proofs.inner.steps.Goals as goal
 

@@ -1,9 +1,8 @@
 -- `output::inner::copy` meets its contract.
 use mathlib.Core.Path.{◌≡◌, refl}
-use Prim.Native.Nat.{◌-◌, ◌≤◌}
 use native.Mathlib.Omega.{arith}
-use lib.ListN.{length, drop, length-set}
-use lib.Seq.{paste, paste-zero}
+use lib.ListN.{drop, length-set}
+use lib.Seq.{paste-zero}
 use Rattle.output.proofs.Added.{copy_more}
 use Rattle.output.proofs.inner.copy.Goals as goal
 

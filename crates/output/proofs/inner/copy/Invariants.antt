@@ -1,9 +1,7 @@
-use mathlib.Core.Path.{◌≡◌, refl}
+use mathlib.Core.Path.{◌≡◌}
 use Prim.Native.Nat.{◌-◌, ◌≤◌}
-use native.Mathlib.Omega.{arith}
-use lib.ListN.{length, drop, length-set}
-use lib.Seq.{paste, paste-zero}
-use Rattle.output.proofs.Added.{copy_more}
+use lib.ListN.{length, drop}
+use lib.Seq.{paste}
 use Rattle.output.proofs.inner.copy.Given as goal
 
 abbrev pub invariant-loop-j : goal.invariant-loop-j

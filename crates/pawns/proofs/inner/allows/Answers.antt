@@ -1,5 +1,4 @@
 -- `pawns::inner::allows` meets its contract.
-use borrow.Author.Rules.{rules}
 use Rattle.pawns.proofs.inner.allows.Goals as goal
 
 pub returns-in-Any : goal.returns-in-Any

@@ -1,6 +1,5 @@
 -- `pawns::inner::candidate_retractors` meets its contract.
 use borrow.Author.Tests.{le-leb, lt-leb}
-use borrow.Author.Rules.{rules}
 use Rattle.squares.specs.Tests.{◌and◌}
 use Rattle.pawns.specs.Pawns.{candidate_retractors}
 use Rattle.pawns.proofs.inner.candidate_retractors.Goals as goal

@@ -1,5 +1,4 @@
 -- `pawns::inner::crossing` meets its contract.
-use borrow.Author.Rules.{rules}
 use Rattle.pawns.specs.Pawns.{crossed_of}
 use Rattle.pawns.proofs.inner.crossing.Goals as goal
 

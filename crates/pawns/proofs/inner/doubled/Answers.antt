@@ -1,5 +1,4 @@
 -- `pawns::inner::doubled` meets its contract.
-use borrow.Author.Rules.{rules}
 use Rattle.squares.specs.Tests.{◌and◌}
 use Rattle.pawns.specs.Pawns.{doubled_of}
 use Rattle.pawns.proofs.inner.doubled.Goals as goal

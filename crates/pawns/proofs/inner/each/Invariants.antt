@@ -1,10 +1,5 @@
-use Prim.Native.Nat.{ℕ}
-use borrow.Author.Rules.{rules}
-use Rattle.retraction_list.specs.declared.RetractionList.{RetractionList}
-use Rattle.retraction_list.specs.inner.Pushing.{pushed_all}
 use Rattle.pawns.specs.Pawns.{from_of}
-use Rattle.squares.proofs.Members.{lowest_lt, going_starts, going_less, going_on}
-use Rattle.retraction_list.proofs.Pushing.{Pushing, pushing_done}
+use Rattle.retraction_list.proofs.Pushing.{Pushing}
 use Rattle.pawns.proofs.inner.each.Given as goal
 
 abbrev pub invariant-loop-left : goal.invariant-loop-left

@@ -1,5 +1,4 @@
 -- `pawns::inner::from` meets its contract.
-use borrow.Author.Rules.{rules}
 use Rattle.pawns.specs.Pawns.{from_of}
 use Rattle.retraction_list.proofs.Pushing.{pushed_both}
 use Rattle.pawns.proofs.inner.from.Goals as goal

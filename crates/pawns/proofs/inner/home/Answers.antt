@@ -1,5 +1,4 @@
 -- `pawns::inner::home` meets its contract.
-use borrow.Author.Rules.{rules}
 use Rattle.pawns.specs.Pawns.{home_of}
 use Rattle.pawns.proofs.inner.home.Goals as goal
 

@@ -1,5 +1,4 @@
 -- `pawns::inner::legals` meets its contract.
-use borrow.Author.Rules.{rules}
 use Rattle.pawns.specs.Pawns.{pawn_of}
 use Rattle.retraction_list.proofs.Pushing.{pushed_both}
 use Rattle.pawns.proofs.inner.legals.Goals as goal

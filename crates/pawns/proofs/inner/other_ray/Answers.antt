@@ -1,5 +1,4 @@
 -- `pawns::inner::other_ray` meets its contract.
-use borrow.Author.Rules.{rules}
 use Rattle.squares.specs.Tests.{◌and◌, ◌or◌}
 use Rattle.pawns.specs.Pawns.{other_ray_of}
 use Rattle.pawns.proofs.inner.other_ray.Goals as goal

@@ -1,5 +1,4 @@
 -- `pawns::inner::steps` meets its contract.
-use borrow.Author.Rules.{rules}
 use Rattle.pawns.specs.Pawns.{steps_of}
 use Rattle.pawns.proofs.inner.steps.Goals as goal
 

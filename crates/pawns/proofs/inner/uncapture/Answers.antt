@@ -1,5 +1,4 @@
 -- `pawns::inner::uncapture` meets its contract.
-use borrow.Author.Rules.{rules}
 use Rattle.pawns.specs.Pawns.{uncapture_of}
 use Rattle.pawns.proofs.inner.uncapture.Goals as goal
 

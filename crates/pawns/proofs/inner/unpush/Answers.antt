@@ -1,5 +1,4 @@
 -- `pawns::inner::unpush` meets its contract.
-use borrow.Author.Rules.{rules}
 use Rattle.pawns.specs.Pawns.{unpush_of}
 use Rattle.pawns.proofs.inner.unpush.Goals as goal
 

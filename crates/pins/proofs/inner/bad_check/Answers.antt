@@ -1,6 +1,5 @@
 -- `pins::inner::bad_check` meets its contract.
 use mathlib.Core.Path.{◌∙◌}
-use borrow.Author.Rules.{rules}
 use Rattle.laws.specs.Boards.{men_at}
 use Rattle.pins.proofs.OneKing.{quiet_is}
 use Rattle.pins.proofs.inner.bad_check.Goals as goal

@@ -1,5 +1,4 @@
 -- `pins::inner::checkers` meets its contract.
-use borrow.Author.Rules.{rules}
 use Rattle.pins.proofs.OneKing.{checkers_is}
 use Rattle.pins.proofs.inner.checkers.Goals as goal
 

@@ -1,5 +1,4 @@
 -- `pins::inner::king_square` meets its contract.
-use borrow.Author.Rules.{rules}
 use Rattle.laws.specs.Boards.{men_at}
 use Rattle.pins.proofs.OneKing.{the_king}
 use Rattle.pins.proofs.inner.king_square.Goals as goal

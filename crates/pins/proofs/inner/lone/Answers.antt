@@ -1,7 +1,6 @@
 -- `pins::inner::lone` meets its contract.
 use mathlib.Core.Path.{◌∙◌, sym}
 use borrow.Author.Tests.{eq-eqb, ne_eqb}
-use borrow.Author.Rules.{rules}
 use Rattle.laws.specs.Boards.{men_at}
 use Rattle.pins.proofs.Aloneness.{one_between, not_one_between}
 use Rattle.pins.proofs.inner.lone.Goals as goal

@@ -1,6 +1,5 @@
 -- `pins::inner::pins` meets its contract.
 use mathlib.Core.Path.{◌∙◌}
-use borrow.Author.Rules.{rules}
 use Rattle.laws.specs.Boards.{men_at}
 use Rattle.pins.proofs.OneKing.{pins_is}
 use Rattle.pins.proofs.inner.pins.Goals as goal

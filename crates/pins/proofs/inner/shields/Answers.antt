@@ -1,10 +1,9 @@
 -- `pins::inner::shields` meets its contract.
 use native.Mathlib.Omega.{arith}
-use borrow.Author.Rules.{rules}
 use Rattle.laws.specs.Attacks.{alone}
 use Rattle.laws.specs.Boards.{men_at}
 use Rattle.squares.proofs.Members.{lowest_lt}
-use Rattle.squares.proofs.Unions.{Uniting, unite_start, unite_turn, unite_less, unite_end}
+use Rattle.squares.proofs.Unions.{unite_start, unite_turn, unite_less, unite_end}
 use Rattle.pins.proofs.inner.shields.Goals as goal
 
 pub loop-left-init : goal.loop-left-init

@@ -1,9 +1,6 @@
-use native.Mathlib.Omega.{arith}
-use borrow.Author.Rules.{rules}
 use Rattle.laws.specs.Attacks.{alone}
 use Rattle.laws.specs.Boards.{men_at}
-use Rattle.squares.proofs.Members.{lowest_lt}
-use Rattle.squares.proofs.Unions.{Uniting, unite_start, unite_turn, unite_less, unite_end}
+use Rattle.squares.proofs.Unions.{Uniting}
 use Rattle.pins.proofs.inner.shields.Given as goal
 
 abbrev pub invariant-loop-left : goal.invariant-loop-left

@@ -1,6 +1,5 @@
 -- `pins::inner::snipers` meets its contract.
 use mathlib.Core.Path.{◌∙◌}
-use borrow.Author.Rules.{rules}
 use Rattle.pins.proofs.OneKing.{snipers_is}
 use Rattle.pins.proofs.inner.snipers.Goals as goal
 

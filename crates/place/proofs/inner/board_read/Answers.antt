@@ -1,6 +1,5 @@
 -- `place::inner::board_read` meets its contract.
 use Rattle.place.specs.Words.{board_read}
-use borrow.Author.Rules.{rules}
 use Rattle.place.proofs.inner.board_read.Goals as goal
 
 pub returns : goal.returns

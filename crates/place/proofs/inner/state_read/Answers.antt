@@ -1,6 +1,5 @@
 -- `place::inner::state_read` meets its contract.
 use borrow.Author.Tests.{eq-eqb, ne_eqb, lt-ltb, le-ltb}
-use borrow.Author.Rules.{rules}
 use Rattle.place.proofs.inner.state_read.Goals as goal
 
 pub returns-then-w-eq0 : goal.returns-then-w-eq0

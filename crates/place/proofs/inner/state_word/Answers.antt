@@ -1,7 +1,6 @@
 -- `place::inner::state_word` meets its contract.
 use mathlib.Core.Path.{sym, ap}
 use Rattle.place.specs.Words.{state_word}
-use borrow.Author.Rules.{rules}
 use Rattle.place.proofs.inner.state_word.Goals as goal
 
 pub returns-in-Some : goal.returns-in-Some

@@ -1,8 +1,6 @@
-use mathlib.Core.Path.{◌≡◌, refl}
+use mathlib.Core.Path.{◌≡◌}
 use Prim.Native.Nat.{ℕ, ◌+◌, ◌-◌, ◌≤◌, ◌<◌}
-use native.Mathlib.Omega.{arith}
-use lib.ListN.{length, get_or, length-set}
-use Rattle.place.proofs.Words.{words_are, words_more}
+use lib.ListN.{length, get_or}
 use Rattle.place.proofs.inner.words_at.Given as goal
 
 abbrev pub invariant-loop-i : goal.invariant-loop-i

@@ -1,6 +1,5 @@
 -- `place::inner::words_of` meets its contract.
 use Rattle.place.specs.Words.{words_of}
-use borrow.Author.Rules.{rules}
 use Rattle.place.proofs.inner.words_of.Goals as goal
 
 pub returns : goal.returns

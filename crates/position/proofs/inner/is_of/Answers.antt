@@ -1,5 +1,4 @@
 -- `position::inner::is_of` meets its contract.
-use borrow.Author.Rules.{rules}
 use Rattle.squares.specs.Tests.{◌and◌}
 use Rattle.position.proofs.Editing.{color_on}
 use Rattle.position.proofs.inner.is_of.Goals as goal

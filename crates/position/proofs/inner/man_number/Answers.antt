@@ -1,6 +1,5 @@
 -- `position::inner::man_number` meets its contract.
 use native.Mathlib.Omega.{arith}
-use borrow.Author.Rules.{rules}
 use Rattle.geometry.specs.declared.Color.TheVariants.{White, Black}
 use Rattle.position.proofs.Editing.{number_with}
 use Rattle.position.proofs.inner.man_number.Goals as goal

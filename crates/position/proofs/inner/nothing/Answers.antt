@@ -1,5 +1,4 @@
 -- `position::inner::nothing` meets its contract.
-use borrow.Author.Rules.{rules}
 use Rattle.position.specs.Answers.{no_position}
 use Rattle.position.proofs.inner.nothing.Goals as goal
 

@@ -1,5 +1,4 @@
 -- `position::inner::refuse` meets its contract.
-use borrow.Author.Rules.{rules}
 use Rattle.position.proofs.inner.refuse.Goals as goal
 
 pub returns : goal.returns

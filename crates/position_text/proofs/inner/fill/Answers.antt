@@ -1,9 +1,8 @@
 -- `position_text::inner::fill` meets its contract.
 use mathlib.Core.Path.{◌≡◌, refl}
-use mathlib.Core.List.{◌++◌}
-use Prim.Native.Nat.{◌-◌, ◌≤◌}
+use Prim.Native.Nat.{◌-◌}
 use native.Mathlib.Omega.{arith}
-use lib.ListN.{length, take, drop, length-set}
+use lib.ListN.{length-set}
 use borrow.Author.Rules.{rules}
 use Rattle.position_text.proofs.Bytes.{copy_more}
 use Rattle.position_text.proofs.inner.fill.Goals as goal

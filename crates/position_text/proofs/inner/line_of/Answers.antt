@@ -1,6 +1,5 @@
 -- `position_text::inner::line_of` meets its contract.
 use Rattle.position_text.proofs.Tails.{line_done}
-use borrow.Author.Rules.{rules}
 use Rattle.position_text.proofs.inner.line_of.Goals as goal
 
 pub returns : goal.returns

@@ -1,5 +1,4 @@
 -- `position_text::inner::no_raw` meets its contract.
-use borrow.Author.Rules.{rules}
 use Rattle.position_text.proofs.inner.no_raw.Goals as goal
 
 pub returns : goal.returns

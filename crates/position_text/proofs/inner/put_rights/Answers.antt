@@ -1,6 +1,5 @@
 -- `position_text::inner::put_rights` meets its contract.
 use native.Mathlib.Omega.{arith}
-use borrow.Author.Rules.{rules}
 use Rattle.position_text.proofs.Tails.{side_grows, dash_none, dash_some}
 use Rattle.men_field.proofs.Adding.{added_both}
 use Rattle.position_text.proofs.inner.put_rights.Goals as goal

@@ -1,5 +1,4 @@
 -- `position_text::inner::put_side` meets its contract.
-use borrow.Author.Rules.{rules}
 use Rattle.laws.specs.declared.CastleRights.TheVariants.{NoRights, KingSide, QueenSide, Both}
 use Rattle.position_text.proofs.Tails.{side_is}
 use Rattle.men_field.proofs.Adding.{added_none, added_both}

@@ -1,5 +1,4 @@
 -- `position_text::inner::put_state` meets its contract.
-use borrow.Author.Rules.{rules}
 use Rattle.laws.specs.declared.EnPassantFlag.TheVariants.{Any, None}
 use Rattle.position_text.proofs.Tails.{state_is}
 use Rattle.men_field.proofs.Adding.{added_both}

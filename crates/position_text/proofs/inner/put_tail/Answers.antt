@@ -2,7 +2,6 @@
 use native.Mathlib.Omega.{arith}
 use Rattle.men_field.proofs.Adding.{added_both}
 use Rattle.position_text.proofs.Tails.{rights_short}
-use borrow.Author.Rules.{rules}
 use Rattle.position_text.proofs.inner.put_tail.Goals as goal
 
 pub push-l5-requires : goal.push-l5-requires

@@ -1,5 +1,4 @@
 -- `position_text::inner::raw_of` meets its contract.
-use borrow.Author.Rules.{rules}
 use Rattle.position_text.proofs.inner.raw_of.Goals as goal
 
 pub returns : goal.returns

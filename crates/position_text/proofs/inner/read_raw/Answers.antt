@@ -2,7 +2,6 @@
 use mathlib.Core.Path.{◌∙◌, ap}
 use Rattle.position_text.specs.inner.Reading.{raw_of}
 use Rattle.position_text.proofs.Inverse.{in_form_lem, out_of_form, no_answer}
-use borrow.Author.Rules.{rules}
 use Rattle.position_text.proofs.inner.read_raw.Goals as goal
 
 pub returns-then-same : goal.returns-then-same

@@ -1,10 +1,6 @@
 use mathlib.Core.Path.{◌≡◌}
 use Prim.Native.Nat.{ℕ, ◌-◌, ◌≤◌, ◌<◌}
-use native.Mathlib.Omega.{arith}
-use lib.ListN.{length, get_or}
-use borrow.Author.Count.{below_none, below_more}
-use borrow.Author.Rules.{rules}
-use Rattle.position_text.proofs.Bytes.{same_yes, same_no, same_long}
+use lib.ListN.{get_or}
 use Rattle.position_text.proofs.inner.same.Given as goal
 
 abbrev pub invariant-loop-i : goal.invariant-loop-i

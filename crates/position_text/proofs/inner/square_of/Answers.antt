@@ -1,6 +1,5 @@
 -- `position_text::inner::square_of` meets its contract.
 use borrow.Author.Tests.{ne_eqb, eq-eqb, lt-ltb, le-ltb}
-use borrow.Author.Rules.{rules}
 use Rattle.position_text.specs.inner.Reading.{square_of}
 use Rattle.position_text.proofs.inner.square_of.Goals as goal
 

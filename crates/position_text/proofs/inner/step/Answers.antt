@@ -1,6 +1,5 @@
 -- `position_text::inner::step` meets its contract.
 use borrow.Author.Tests.{ne_eqb, eq-eqb}
-use borrow.Author.Rules.{rules}
 use Rattle.position_text.specs.inner.Reading.{step_of}
 use Rattle.position_text.proofs.inner.step.Goals as goal
 

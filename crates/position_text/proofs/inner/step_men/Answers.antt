@@ -1,6 +1,5 @@
 -- `position_text::inner::step_men` meets its contract.
 use borrow.Author.Tests.{le-leb, lt-leb}
-use borrow.Author.Rules.{rules}
 use Rattle.position_text.specs.inner.Reading.{step_men}
 use Rattle.position_text.proofs.inner.step_men.Goals as goal
 

@@ -1,6 +1,5 @@
 -- `position_text::inner::step_tail` meets its contract.
 use borrow.Author.Tests.{ne_eqb, eq-eqb}
-use borrow.Author.Rules.{rules}
 use Rattle.position_text.specs.inner.Reading.{step_tail}
 use Rattle.position_text.proofs.inner.step_tail.Goals as goal
 

@@ -1,9 +1,7 @@
 -- `position_text::inner::walk` meets its contract.
-use mathlib.Core.Path.{◌≡◌, refl, sym, ◌∙◌}
-use Prim.Native.Nat.{◌-◌, ◌≤◌}
+use mathlib.Core.Path.{refl, sym, ◌∙◌}
+use Prim.Native.Nat.{◌-◌}
 use native.Mathlib.Omega.{arith}
-use lib.ListN.{length, drop}
-use Rattle.position_text.specs.inner.Reading.{start_of, run_of}
 use Rattle.position_text.proofs.Walks.{run_step, run_done}
 use Rattle.position_text.proofs.inner.walk.Goals as goal
 

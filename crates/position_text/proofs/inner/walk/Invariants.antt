@@ -1,9 +1,7 @@
-use mathlib.Core.Path.{◌≡◌, refl, sym, ◌∙◌}
+use mathlib.Core.Path.{◌≡◌}
 use Prim.Native.Nat.{◌-◌, ◌≤◌}
-use native.Mathlib.Omega.{arith}
 use lib.ListN.{length, drop}
 use Rattle.position_text.specs.inner.Reading.{start_of, run_of}
-use Rattle.position_text.proofs.Walks.{run_step, run_done}
 use Rattle.position_text.proofs.inner.walk.Given as goal
 
 abbrev pub invariant-loop-i : goal.invariant-loop-i

@@ -2,7 +2,6 @@
 use mathlib.Core.Path.{sym}
 use native.Mathlib.Omega.{arith}
 use lib.Seq.{length-take-le}
-use borrow.Author.Rules.{rules}
 use Rattle.puts.proofs.inner.front.Goals as goal
 
 pub slice_bounds-bytes-end : goal.slice_bounds-bytes-end

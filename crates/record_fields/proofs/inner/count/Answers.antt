@@ -1,9 +1,8 @@
 -- `record_fields::inner::count` meets its contract.
-use mathlib.Core.Path.{◌≡◌, refl, sym, ◌∙◌, subst}
-use Prim.Native.Nat.{ℕ, ◌-◌, ◌≤◌}
+use mathlib.Core.Path.{refl, sym, ◌∙◌, subst}
+use Prim.Native.Nat.{ℕ, ◌-◌}
 use native.Mathlib.Omega.{arith}
-use lib.ListN.{length, drop}
-use Rattle.record_fields.specs.inner.Counting.{Counted, count_run}
+use Rattle.record_fields.specs.inner.Counting.{Counted}
 use Rattle.record_fields.proofs.Decimals.{run_step, run_done, walk_counted}
 use Rattle.record_fields.proofs.inner.count.Goals as goal
 

@@ -1,9 +1,7 @@
-use mathlib.Core.Path.{◌≡◌, refl, sym, ◌∙◌, subst}
-use Prim.Native.Nat.{ℕ, ◌-◌, ◌≤◌}
-use native.Mathlib.Omega.{arith}
+use mathlib.Core.Path.{◌≡◌}
+use Prim.Native.Nat.{◌-◌, ◌≤◌}
 use lib.ListN.{length, drop}
-use Rattle.record_fields.specs.inner.Counting.{Counted, count_run}
-use Rattle.record_fields.proofs.Decimals.{run_step, run_done, walk_counted}
+use Rattle.record_fields.specs.inner.Counting.{count_run}
 use Rattle.record_fields.proofs.inner.count.Given as goal
 
 abbrev pub invariant-loop-i : goal.invariant-loop-i

@@ -1,5 +1,4 @@
 -- `record_fields::inner::count_step` meets its contract.
-use borrow.Author.Rules.{rules}
 use native.Mathlib.Omega.{arith}
 use borrow.Author.Tests.{eq-eqb, ne_eqb, lt-ltb, le-ltb}
 use Rattle.record_fields.specs.inner.Counting.{count_step}

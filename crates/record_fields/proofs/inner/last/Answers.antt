@@ -1,8 +1,6 @@
 -- `record_fields::inner::last` meets its contract.
-use mathlib.Core.Path.{◌≡◌}
-use Prim.Native.Nat.{ℕ, ◌-◌, ◌≤◌, ◌<◌}
+use Prim.Native.Nat.{◌-◌}
 use native.Mathlib.Omega.{arith}
-use lib.ListN.{get_or}
 use Rattle.record_fields.proofs.Splits.{free_more}
 use Rattle.record_fields.proofs.inner.last.Goals as goal
 

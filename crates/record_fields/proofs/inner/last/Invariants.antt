@@ -1,8 +1,6 @@
 use mathlib.Core.Path.{◌≡◌}
 use Prim.Native.Nat.{ℕ, ◌-◌, ◌≤◌, ◌<◌}
-use native.Mathlib.Omega.{arith}
 use lib.ListN.{get_or}
-use Rattle.record_fields.proofs.Splits.{free_more}
 use Rattle.record_fields.proofs.inner.last.Given as goal
 
 abbrev pub invariant-loop-i : goal.invariant-loop-i

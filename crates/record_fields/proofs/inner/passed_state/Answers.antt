@@ -1,6 +1,5 @@
 -- `record_fields::inner::passed_state` meets its contract.
 use borrow.Author.Tests.{lt-ltb, le-ltb}
-use borrow.Author.Rules.{rules}
 use Rattle.record_fields.proofs.inner.passed_state.Goals as goal
 
 pub returns-then-s-lt32 : goal.returns-then-s-lt32

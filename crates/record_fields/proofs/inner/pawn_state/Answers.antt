@@ -1,6 +1,5 @@
 -- `record_fields::inner::pawn_state` meets its contract.
 use borrow.Author.Tests.{eq-eqb, ne_eqb}
-use borrow.Author.Rules.{rules}
 use Rattle.record_fields.proofs.inner.pawn_state.Goals as goal
 
 pub returns-then-q-eq2 : goal.returns-then-q-eq2

@@ -1,6 +1,5 @@
 -- `records::inner::answer` meets its contract.
 use borrow.Author.Tests.{lt-ltb, le-ltb}
-use borrow.Author.Rules.{rules}
 use Rattle.records.proofs.inner.answer.Goals as goal
 
 pub returns-then-half-gt10000 : goal.returns-then-half-gt10000

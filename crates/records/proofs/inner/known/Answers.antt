@@ -1,8 +1,6 @@
 -- `records::inner::known` meets its contract.
 use mathlib.Core.Path.{◌∙◌, sym}
-use borrow.Author.Tests.{not-true, not-false}
 use Rattle.records.proofs.Giving.{not_known, is_known_lem}
-use borrow.Author.Rules.{rules}
 use Rattle.records.proofs.inner.known.Goals as goal
 
 pub returns-then-not-is_known : goal.returns-then-not-is_known

@@ -1,5 +1,4 @@
 -- `records::inner::no_record` meets its contract.
-use borrow.Author.Rules.{rules}
 use Rattle.records.proofs.inner.no_record.Goals as goal
 
 pub returns : goal.returns

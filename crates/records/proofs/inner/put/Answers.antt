@@ -1,7 +1,6 @@
 -- `records::inner::put` meets its contract.
 use native.Mathlib.Omega.{arith}
 use Rattle.records.proofs.Writing.{put_count, put_room}
-use borrow.Author.Rules.{rules}
 use Rattle.records.proofs.inner.put.Goals as goal
 
 pub returns-in-Count : goal.returns-in-Count

@@ -1,10 +1,8 @@
 -- `records::inner::ranged` meets its contract.
 use mathlib.Core.Path.{◌∙◌, sym, ap}
-use borrow.Author.Tests.{not-true, not-false}
 use Rattle.board.specs.declared.Boarded.{Boarded}
 use Rattle.records.specs.inner.Answering.{recorded_by}
 use Rattle.records.proofs.Giving.{out_of_range, within_range}
-use borrow.Author.Rules.{rules}
 use Rattle.records.proofs.inner.ranged.Goals as goal
 
 pub returns-then-not-in_range : goal.returns-then-not-in_range

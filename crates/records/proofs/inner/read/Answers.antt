@@ -3,7 +3,6 @@ use native.Mathlib.Omega.{arith}
 use mathlib.Core.Path.{sym}
 use lib.Seq.{length-take-le}
 use Rattle.records.proofs.Answering.{no_space, one_space, six_fields}
-use borrow.Author.Rules.{rules}
 use Rattle.records.proofs.inner.read.Goals as goal
 
 pub returns-then-j-eq0 : goal.returns-then-j-eq0

@@ -1,5 +1,4 @@
 -- `records::inner::recorded` meets its contract.
-use borrow.Author.Rules.{rules}
 use Rattle.records.proofs.inner.recorded.Goals as goal
 
 pub returns-in-Accepted : goal.returns-in-Accepted

@@ -1,11 +1,9 @@
 -- `records::inner::write` meets its contract.
 use mathlib.Core.Path.{◌∙◌, sym, ap}
 use Rattle.records.specs.Entries.{record_on}
-use borrow.Author.Tests.{not-true, not-false}
 use Rattle.laws.specs.declared.Position.{Position}
 use Rattle.records.specs.Form.{record_of}
 use Rattle.records.proofs.Writing.{known_writes, unknown_writes}
-use borrow.Author.Rules.{rules}
 use Rattle.records.proofs.inner.write.Goals as goal
 
 pub returns-then-not-is_known : goal.returns-then-not-is_known

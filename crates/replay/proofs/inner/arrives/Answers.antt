@@ -1,7 +1,6 @@
 -- `replay::inner::arrives` meets its contract.
 use mathlib.Core.Path.{◌∙◌}
 use native.Mathlib.Omega.{arith}
-use borrow.Author.Rules.{rules}
 use Rattle.position.specs.inner.Edits.{man_with}
 use Rattle.position.proofs.Composing.{numbered_is}
 use Rattle.position.proofs.Editing.{is_man}

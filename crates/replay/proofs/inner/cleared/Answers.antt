@@ -2,7 +2,6 @@
 use mathlib.Core.Path.{refl}
 use Rattle.laws.specs.Men.{empty}
 use Rattle.position.proofs.Composing.{with_own, puts}
-use borrow.Author.Rules.{rules}
 use Rattle.replay.proofs.inner.cleared.Goals as goal
 
 pub behind-requires : goal.behind-requires

@@ -1,6 +1,5 @@
 -- `replay::inner::filled` meets its contract.
 use Rattle.position.proofs.Composing.{with_own, puts}
-use borrow.Author.Rules.{rules}
 use Rattle.replay.proofs.inner.filled.Goals as goal
 
 pub returns-in-Plain : goal.returns-in-Plain

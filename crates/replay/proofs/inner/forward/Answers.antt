@@ -1,6 +1,5 @@
 -- `replay::inner::forward` meets its contract.
 use Rattle.replay.proofs.Forwards.{fits_is, forward_is}
-use borrow.Author.Rules.{rules}
 use Rattle.replay.proofs.inner.forward.Goals as goal
 
 pub after-m-requires : goal.after-m-requires

@@ -1,7 +1,6 @@
 -- `replay::inner::keeps` meets its contract.
 use Rattle.squares.specs.Tests.{◌and◌}
 use Rattle.replay.specs.inner.Parts.{keeps_for}
-use borrow.Author.Rules.{rules}
 use Rattle.replay.proofs.inner.keeps.Goals as goal
 
 pub returns : goal.returns

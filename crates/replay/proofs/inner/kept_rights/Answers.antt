@@ -1,6 +1,5 @@
 -- `replay::inner::kept_rights` meets its contract.
 use Rattle.squares.specs.Tests.{◌and◌}
-use borrow.Author.Rules.{rules}
 use Rattle.replay.proofs.inner.kept_rights.Goals as goal
 
 pub returns : goal.returns

@@ -1,9 +1,7 @@
 -- `replay::inner::replay` meets its contract.
 use mathlib.Core.Path.{ap, sym, ◌∙◌}
-use borrow.Author.Rules.{rules}
 use Rattle.position.specs.Answers.{answered}
 use Rattle.replay.specs.Replayed.{replay_to}
-use Rattle.squares.proofs.Testing.{denied, granted}
 use Rattle.replay.proofs.Forwards.{goes_of}
 use Rattle.replay.proofs.inner.replay.Goals as goal
 

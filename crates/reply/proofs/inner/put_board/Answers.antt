@@ -5,7 +5,6 @@ use Rattle.retraction_gen.specs.Sequence.{sequence_on}
 use Rattle.slots.proofs.Telling.{listing_tells}
 use Rattle.reply.proofs.Slots.{written_is, written_within}
 use Rattle.reply.proofs.Spoken.{listed_passes, board_shown, board_roomless, board_refused}
-use borrow.Author.Rules.{rules}
 use Rattle.reply.proofs.inner.put_board.Goals as goal
 
 pub list-l-requires : goal.list-l-requires

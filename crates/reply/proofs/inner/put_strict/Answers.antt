@@ -7,7 +7,6 @@ use Rattle.slots.proofs.Telling.{listing_tells}
 use Rattle.reply.proofs.Slots.{passed_board, passed_room, written_is, written_within}
 use Rattle.reply.proofs.Shown.{never_failed}
 use Rattle.reply.proofs.Spoken.{strict_shown, strict_roomless}
-use borrow.Author.Rules.{rules}
 use Rattle.reply.proofs.inner.put_strict.Goals as goal
 
 pub list-s-requires : goal.list-s-requires

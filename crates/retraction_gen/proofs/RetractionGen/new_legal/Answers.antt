@@ -1,6 +1,5 @@
 -- `retraction_gen::RetractionGen::new_legal` meets its contract.
 use mathlib.Core.Path.{sym, ◌∙◌}
-use borrow.Author.Rules.{rules}
 use Rattle.retraction_gen.proofs.Gated.{makes_refused, makes_on}
 use Rattle.retraction_gen.proofs.RetractionGen.new_legal.Goals as goal
 

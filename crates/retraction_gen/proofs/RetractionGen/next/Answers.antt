@@ -1,11 +1,8 @@
 -- `retraction_gen::RetractionGen::next` meets its contract.
-use mathlib.Core.Path.{◌≡◌, sym, ap, ◌∙◌}
+use mathlib.Core.Path.{sym, ap, ◌∙◌}
 use mathlib.Core.Bool.{Bool, cond}
-use borrow.Author.Rules.{rules}
-use borrow.Author.Tests.{not-true, not-false}
 use Rattle.retraction_gen.specs.declared.Turned.{Turned}
-use Rattle.retraction_gen.specs.declared.Turn.TheVariants.{Again}
-use Rattle.retraction_gen.specs.Cursors.{retraction_said, end_said, back, step_of, next_of, fuel, turn_of}
+use Rattle.retraction_gen.specs.Cursors.{retraction_said, end_said, back, step_of}
 use Rattle.retraction_gen.proofs.Stepping.{steps}
 use Rattle.retraction_gen.proofs.Going.{again_less, step_again, step_found, step_over}
 use Rattle.retraction_gen.proofs.RetractionGen.next.Goals as goal

@@ -1,5 +1,4 @@
 -- `retraction_gen::inner::is_against` meets its contract.
-use borrow.Author.Rules.{rules}
 use Rattle.retraction_gen.proofs.inner.is_against.Goals as goal
 
 pub returns-in-Necessary : goal.returns-in-Necessary

@@ -1,5 +1,4 @@
 -- `retraction_gen::inner::is_barred` meets its contract.
-use borrow.Author.Rules.{rules}
 use Rattle.retraction_gen.specs.Cursors.{barred}
 use Rattle.squares.specs.Tests.{◌or◌}
 use Rattle.retraction_gen.proofs.inner.is_barred.Goals as goal

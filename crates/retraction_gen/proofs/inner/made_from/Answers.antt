@@ -1,6 +1,5 @@
 -- `retraction_gen::inner::made_from` meets its contract.
 use mathlib.Core.Path.{sym, ap, ◌∙◌}
-use borrow.Author.Rules.{rules}
 use Rattle.refusal.specs.declared.Refusal.TheVariants.{Full}
 use Rattle.refusal.specs.Refusals.{verdict_number}
 use Rattle.retraction_gen.specs.Making.{masks_on, cursor_on}

@@ -1,6 +1,5 @@
 -- `retraction_gen::inner::refused` meets its contract.
 use mathlib.Core.Path.{refl}
-use borrow.Author.Rules.{rules}
 use Rattle.retraction_gen.specs.Making.{no_cursor}
 use Rattle.retraction_gen.proofs.inner.refused.Goals as goal
 

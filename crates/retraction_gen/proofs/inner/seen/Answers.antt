@@ -1,5 +1,4 @@
 -- `retraction_gen::inner::seen` meets its contract.
-use borrow.Author.Rules.{rules}
 use Rattle.retraction_gen.proofs.inner.seen.Goals as goal
 
 pub returns : goal.returns

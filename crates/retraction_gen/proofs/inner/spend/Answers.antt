@@ -1,5 +1,4 @@
 -- `retraction_gen::inner::spend` meets its contract.
-use borrow.Author.Rules.{rules}
 use Rattle.retraction_gen.specs.Cursors.{spent}
 use Rattle.retraction_gen.proofs.inner.spend.Goals as goal
 

@@ -1,7 +1,6 @@
 -- `retraction_gen::inner::turn_in` meets its contract.
 use borrow.Author.Tests.{le-leb, lt-leb}
 use Rattle.retraction_gen.specs.Cursors.{turn_in}
-use borrow.Author.Rules.{rules}
 use Rattle.retraction_gen.proofs.inner.turn_in.Goals as goal
 
 pub returns-then-is_un_en_passant : goal.returns-then-is_un_en_passant

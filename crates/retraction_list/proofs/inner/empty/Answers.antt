@@ -1,5 +1,4 @@
 -- `retraction_list::inner::empty` meets its contract.
-use borrow.Author.Rules.{rules}
 use Rattle.retraction_list.specs.Entries.{holding}
 use Rattle.retraction_list.proofs.inner.empty.Goals as goal
 

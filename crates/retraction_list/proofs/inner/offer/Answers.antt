@@ -1,6 +1,5 @@
 -- `retraction_list::inner::offer` meets its contract.
 use borrow.Author.Tests.{eq-eqb, ne_eqb}
-use borrow.Author.Rules.{rules}
 use Rattle.retraction_list.specs.Entries.{offered}
 use Rattle.retraction_list.specs.inner.Pushing.{pushed_all}
 use Rattle.retraction_list.proofs.inner.offer.Goals as goal

@@ -1,5 +1,4 @@
 -- `retraction_list::inner::overfull` meets its contract.
-use borrow.Author.Rules.{rules}
 use Rattle.retraction_list.specs.Entries.{holding, full_list}
 use Rattle.retraction_list.proofs.inner.overfull.Goals as goal
 

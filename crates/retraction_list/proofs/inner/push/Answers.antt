@@ -1,6 +1,5 @@
 -- `retraction_list::inner::push` meets its contract.
 use borrow.Author.Tests.{le-leb, lt-leb}
-use borrow.Author.Rules.{rules}
 use Rattle.retraction_list.specs.inner.Pushing.{pushed}
 use Rattle.retraction_list.proofs.inner.push.Goals as goal
 

@@ -1,5 +1,4 @@
 -- `retraction_list::inner::put` meets its contract.
-use borrow.Author.Rules.{rules}
 use Rattle.retraction_list.specs.inner.Pushing.{pushed_all}
 use Rattle.retraction_list.proofs.inner.put.Goals as goal
 

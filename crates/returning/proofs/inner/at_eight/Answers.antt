@@ -1,6 +1,5 @@
 -- `returning::inner::at_eight` meets its contract.
 use Rattle.returning.proofs.Allowed.{eight_back}
-use borrow.Author.Rules.{rules}
 use Rattle.returning.proofs.inner.at_eight.Goals as goal
 
 pub returns : goal.returns

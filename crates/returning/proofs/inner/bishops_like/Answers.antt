@@ -1,6 +1,5 @@
 -- `returning::inner::bishops_like` meets its contract.
 use Rattle.returning.proofs.Shades.{bishops_like_is}
-use borrow.Author.Rules.{rules}
 use Rattle.returning.proofs.inner.bishops_like.Goals as goal
 
 pub returns : goal.returns

@@ -6,7 +6,6 @@ use Rattle.laws.specs.Men.{Men}
 use Rattle.laws.specs.Souls.{souls}
 use Rattle.laws.proofs.ManSets.{men_on}
 use Rattle.position.proofs.Composing.{put_on, then_clean, then_men}
-use borrow.Author.Rules.{rules}
 use Rattle.returning.proofs.inner.few_with.Goals as goal
 
 pub souls-requires : goal.souls-requires

@@ -1,7 +1,6 @@
 -- `returning::inner::men_back` meets its contract.
 use mathlib.Core.Path.{◌∙◌}
 use Rattle.returning.proofs.Allowed.{all_back, none_back}
-use borrow.Author.Rules.{rules}
 use Rattle.returning.proofs.inner.men_back.Goals as goal
 
 pub returns-then-n-le7 : goal.returns-then-n-le7

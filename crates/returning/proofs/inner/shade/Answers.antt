@@ -1,6 +1,5 @@
 -- `returning::inner::shade` meets its contract.
 use Rattle.returning.proofs.Shades.{shade_is}
-use borrow.Author.Rules.{rules}
 use Rattle.returning.proofs.inner.shade.Goals as goal
 
 pub returns : goal.returns

@@ -1,10 +1,7 @@
-use mathlib.Core.Path.{◌≡◌, refl, sym, ◌∙◌}
+use mathlib.Core.Path.{◌≡◌}
 use Prim.Native.Nat.{◌-◌, ◌≤◌}
-use native.Mathlib.Omega.{arith}
 use lib.ListN.{length, drop}
-use borrow.Author.Rules.{rules}
 use Rattle.rows.specs.Rows.{is_in}
-use Rattle.rows.proofs.Rows.{in_none, in_here, in_later}
 use Rattle.rows.proofs.inner.contains.Given as goal
 
 abbrev pub invariant-loop-i : goal.invariant-loop-i

@@ -1,6 +1,5 @@
 -- `rows::inner::fields_of` meets its contract.
 use Rattle.rows.proofs.Rows.{fields_is}
-use borrow.Author.Rules.{rules}
 use Rattle.rows.proofs.inner.fields_of.Goals as goal
 
 pub returns : goal.returns

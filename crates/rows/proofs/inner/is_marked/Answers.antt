@@ -1,5 +1,4 @@
 -- `rows::inner::is_marked` meets its contract.
-use borrow.Author.Rules.{rules}
 use Rattle.rows.specs.inner.Marked.{marked}
 use Rattle.rows.proofs.inner.is_marked.Goals as goal
 

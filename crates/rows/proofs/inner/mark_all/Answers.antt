@@ -1,10 +1,8 @@
 -- `rows::inner::mark_all` meets its contract.
-use mathlib.Core.Path.{◌≡◌, ◌∙◌}
-use Prim.Native.Nat.{◌-◌, ◌≤◌}
+use mathlib.Core.Path.{◌∙◌}
+use Prim.Native.Nat.{◌-◌}
 use native.Mathlib.Omega.{arith}
-use lib.ListN.{length}
-use borrow.Author.Rules.{rules}
-use Rattle.rows.proofs.Marking.{Marking, marking_none, marking_next, marking_all}
+use Rattle.rows.proofs.Marking.{marking_none, marking_next, marking_all}
 use Rattle.rows.proofs.inner.mark_all.Goals as goal
 
 pub loop-i-init : goal.loop-i-init

@@ -1,9 +1,7 @@
-use mathlib.Core.Path.{◌≡◌, ◌∙◌}
+use mathlib.Core.Path.{◌≡◌}
 use Prim.Native.Nat.{◌-◌, ◌≤◌}
-use native.Mathlib.Omega.{arith}
 use lib.ListN.{length}
-use borrow.Author.Rules.{rules}
-use Rattle.rows.proofs.Marking.{Marking, marking_none, marking_next, marking_all}
+use Rattle.rows.proofs.Marking.{Marking}
 use Rattle.rows.proofs.inner.mark_all.Given as goal
 
 abbrev pub invariant-loop-i : goal.invariant-loop-i

@@ -1,6 +1,5 @@
 -- `rows::inner::mark_slot` meets its contract.
 use native.Mathlib.Omega.{arith}
-use borrow.Author.Rules.{rules}
 use Rattle.rows.proofs.Marking.{mark_is}
 use Rattle.rows.proofs.inner.mark_slot.Goals as goal
 

@@ -1,6 +1,5 @@
 -- `rows::inner::put_listed_row` meets its contract.
 use mathlib.Core.Path.{sym, ◌∙◌}
-use borrow.Author.Rules.{rules}
 use Rattle.output.proofs.Adding.{adds_as}
 use Rattle.rows.proofs.Rows.{listed_row_lem}
 use Rattle.rows.proofs.inner.put_listed_row.Goals as goal

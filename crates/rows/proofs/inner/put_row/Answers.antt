@@ -1,5 +1,4 @@
 -- `rows::inner::put_row` meets its contract.
-use borrow.Author.Rules.{rules}
 use Rattle.output.proofs.Added.{used_adds}
 use Rattle.output.proofs.Adding.{adds_as}
 use Rattle.rows.proofs.inner.put_row.Goals as goal

@@ -1,6 +1,5 @@
 -- `rows::inner::put_strict_row` meets its contract.
 use mathlib.Core.Path.{sym, ◌∙◌}
-use borrow.Author.Rules.{rules}
 use Rattle.output.proofs.Adding.{adds_as, adds_nothing}
 use Rattle.rows.proofs.Rows.{strict_row_lem}
 use Rattle.rows.proofs.inner.put_strict_row.Goals as goal

@@ -1,6 +1,5 @@
 -- `rows::inner::row` meets its contract.
 use Rattle.rows.proofs.Rows.{row_is}
-use borrow.Author.Rules.{rules}
 use Rattle.rows.proofs.inner.row.Goals as goal
 
 pub returns : goal.returns

@@ -2,7 +2,6 @@
 use mathlib.Core.Path.{sym, ◌∙◌, ap}
 use native.Mathlib.Omega.{arith}
 use lib.ListN.{length}
-use borrow.Author.Rules.{rules}
 use Rattle.rows.proofs.Rows.{strict_row_lem}
 use Rattle.rows.proofs.inner.rows_of.Goals as goal
 

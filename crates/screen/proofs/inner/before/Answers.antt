@@ -1,6 +1,5 @@
 -- `screen::inner::before` meets its contract.
 use mathlib.Core.Path.{sym, ◌∙◌}
-use borrow.Author.Rules.{rules}
 use Rattle.board.proofs.Moving.{unmake_number}
 use Rattle.screen.proofs.Screened.{taken, left}
 use Rattle.screen.proofs.inner.before.Goals as goal

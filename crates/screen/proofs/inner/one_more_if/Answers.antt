@@ -1,6 +1,5 @@
 -- `screen::inner::one_more_if` meets its contract.
 use mathlib.Core.Path.{◌∙◌}
-use borrow.Author.Rules.{rules}
 use Rattle.screen.proofs.inner.one_more_if.Goals as goal
 
 pub returns-then-so : goal.returns-then-so

@@ -1,5 +1,4 @@
 -- `screen::inner::press` meets its contract.
-use borrow.Author.Rules.{rules}
 use Rattle.screen.proofs.Screened.{yields_range, press_shown}
 use Rattle.screen.proofs.inner.press.Goals as goal
 

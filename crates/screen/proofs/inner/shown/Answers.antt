@@ -1,5 +1,4 @@
 -- `screen::inner::shown` meets its contract.
-use borrow.Author.Rules.{rules}
 use Rattle.screen.proofs.Screened.{retraction_is}
 use Rattle.screen.proofs.inner.shown.Goals as goal
 

@@ -1,5 +1,4 @@
 -- `sliding::inner::get_bishop_moves` meets its contract.
-use Rattle.std.proofs.Common.{rules}
 use Rattle.sliding.proofs.Seeing.{bishop_is}
 use Rattle.sliding.proofs.inner.get_bishop_moves.Goals as goal
 

@@ -1,5 +1,4 @@
 -- `sliding::inner::get_queen_moves` meets its contract.
-use Rattle.std.proofs.Common.{rules}
 use Rattle.sliding.proofs.Seeing.{queen_is}
 use Rattle.sliding.proofs.inner.get_queen_moves.Goals as goal
 

@@ -1,5 +1,4 @@
 -- `sliding::inner::get_rook_moves` meets its contract.
-use Rattle.std.proofs.Common.{rules}
 use Rattle.sliding.proofs.Seeing.{rook_is}
 use Rattle.sliding.proofs.inner.get_rook_moves.Goals as goal
 

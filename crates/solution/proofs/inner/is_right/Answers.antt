@@ -2,7 +2,6 @@
 use mathlib.Core.Path.{ap₂}
 use mathlib.Core.Bool.{Bool, not}
 use Rattle.squares.specs.Tests.{◌and◌}
-use borrow.Author.Rules.{rules}
 use Rattle.solution.proofs.inner.is_right.Goals as goal
 
 pub returns : goal.returns

@@ -1,6 +1,5 @@
 -- `solution::inner::judged` meets its contract.
 use Rattle.solution.proofs.Answering.{form_told}
-use borrow.Author.Rules.{rules}
 use Rattle.solution.proofs.inner.judged.Goals as goal
 
 pub verdict-requires : goal.verdict-requires

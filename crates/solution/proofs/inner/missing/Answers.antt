@@ -3,11 +3,6 @@ use mathlib.Core.Path.{sym, ap, ◌∙◌}
 use mathlib.Core.Bool.{not}
 use Prim.Native.Nat.{◌-◌}
 use native.Mathlib.Omega.{arith}
-use Rattle.laws.specs.Boards.{pos_at}
-use Rattle.strict_search.specs.inner.Searching.{test_of}
-use Rattle.rows.specs.inner.Marked.{marked}
-use Rattle.solution.specs.inner.Marked.{AllMarked}
-use Rattle.squares.proofs.Testing.{granted}
 use Rattle.strict_search.proofs.Remaining.{inner}
 use Rattle.solution.proofs.Marking.{so_far, and_on, all_marked, lacks_here}
 use Rattle.solution.proofs.inner.missing.Goals as goal

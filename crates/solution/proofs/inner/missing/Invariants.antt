@@ -1,13 +1,8 @@
-use mathlib.Core.Path.{sym, ◌∙◌}
 use Prim.Native.Nat.{◌-◌}
-use native.Mathlib.Omega.{arith}
 use Rattle.laws.specs.Boards.{pos_at}
 use Rattle.strict_search.specs.inner.Searching.{test_of}
 use Rattle.rows.specs.inner.Marked.{marked}
 use Rattle.solution.specs.inner.Marked.{AllMarked}
-use Rattle.squares.proofs.Testing.{granted}
-use Rattle.strict_search.proofs.Remaining.{inner}
-use Rattle.solution.proofs.Marking.{so_far, and_on, all_marked, lacks_here}
 use Rattle.solution.proofs.inner.missing.Given as goal
 
 abbrev pub invariant-loop-i : goal.invariant-loop-i

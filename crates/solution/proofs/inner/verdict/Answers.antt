@@ -1,15 +1,13 @@
 -- `solution::inner::verdict` meets its contract.
 use mathlib.Core.Path.{ap}
 use mathlib.Core.Bool.{not}
-use Prim.Native.Nat.{◌-◌, ◌≤◌}
+use Prim.Native.Nat.{◌-◌}
 use native.Mathlib.Omega.{arith}
-use lib.ListN.{length}
-use borrow.Author.Rules.{rules}
 use Rattle.laws.specs.Boards.{pos_at}
 use Rattle.solution_lines.proofs.Cutting.{next_on}
 use Rattle.solution_lines.proofs.Walking.{start}
 use Rattle.solution.proofs.Marking.{seen_none}
-use Rattle.solution.proofs.Judging.{Goes, tells_wrong, goes_on, tells_end}
+use Rattle.solution.proofs.Judging.{tells_wrong, goes_on, tells_end}
 use Rattle.solution.proofs.inner.verdict.Goals as goal
 
 pub loop-at-init : goal.loop-at-init
@@ -50,12 +48,11 @@ loop-at-smaller c =
     omega (arith, next_on c.args.lines.now c.loop-at.at c.loop-at-test.true c.find-stop.result c.find-stop.ensures.0 c.past-at.result c.past-at.ensures.0)
 
 pub loop-at-preserved : goal.loop-at-preserved
-loop-at-preserved c =
-    (
-      c.past-at.ensures.1,
-      omega (arith, c.loop-at.invariant.1, next_on c.args.lines.now c.loop-at.at c.loop-at-test.true c.find-stop.result c.find-stop.ensures.0 c.past-at.result c.past-at.ensures.0),
-      goes_on (pos_at c.args.p) c.args.lines.now c.loop-at.seen c.loop-at.at c.loop-at.n c.loop-at.invariant.2 c.requires.1 c.loop-at-test.true c.find-stop.result c.find-stop.ensures.0 c.read_line-r.result c.read_line-r.ensures c.place_of-i.result c.place_of-i.ensures.0 c.is_right.result c.is_right.ensures (ap not c.if-not-is_right.false) c.past-at.result c.past-at.ensures.0 _ c.mark.ensures,
-    )
+loop-at-preserved c = (
+  c.past-at.ensures.1,
+  omega (arith, c.loop-at.invariant.1, next_on c.args.lines.now c.loop-at.at c.loop-at-test.true c.find-stop.result c.find-stop.ensures.0 c.past-at.result c.past-at.ensures.0),
+  goes_on (pos_at c.args.p) c.args.lines.now c.loop-at.seen c.loop-at.at c.loop-at.n c.loop-at.invariant.2 c.requires.1 c.loop-at-test.true c.find-stop.result c.find-stop.ensures.0 c.read_line-r.result c.read_line-r.ensures c.place_of-i.result c.place_of-i.ensures.0 c.is_right.result c.is_right.ensures (ap not c.if-not-is_right.false) c.past-at.result c.past-at.ensures.0 _ c.mark.ensures,
+)
 
 pub missing-requires : goal.missing-requires
 missing-requires c = c.requires.0

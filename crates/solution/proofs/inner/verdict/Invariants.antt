@@ -1,12 +1,7 @@
 use Prim.Native.Nat.{◌-◌, ◌≤◌}
-use native.Mathlib.Omega.{arith}
 use lib.ListN.{length}
-use borrow.Author.Rules.{rules}
 use Rattle.laws.specs.Boards.{pos_at}
-use Rattle.solution_lines.proofs.Cutting.{next_on}
-use Rattle.solution_lines.proofs.Walking.{start}
-use Rattle.solution.proofs.Marking.{seen_none}
-use Rattle.solution.proofs.Judging.{Goes, tells_wrong, goes_on, tells_end}
+use Rattle.solution.proofs.Judging.{Goes}
 use Rattle.solution.proofs.inner.verdict.Given as goal
 
 abbrev pub invariant-loop-at : goal.invariant-loop-at

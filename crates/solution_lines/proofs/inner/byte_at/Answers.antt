@@ -1,6 +1,5 @@
 -- `solution_lines::inner::byte_at` meets its contract.
 use Rattle.solution_lines.proofs.Inverse.{none_there}
-use borrow.Author.Rules.{rules}
 use Rattle.solution_lines.proofs.inner.byte_at.Goals as goal
 
 pub returns : goal.returns

@@ -1,6 +1,5 @@
 -- `solution_lines::inner::is_formed` meets its contract.
 use Rattle.solution_lines.proofs.Inverse.{formed_is}
-use borrow.Author.Rules.{rules}
 use Rattle.solution_lines.proofs.inner.is_formed.Goals as goal
 
 pub returns : goal.returns

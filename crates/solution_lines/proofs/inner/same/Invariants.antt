@@ -1,10 +1,6 @@
 use mathlib.Core.Path.{◌≡◌}
 use Prim.Native.Nat.{ℕ, ◌-◌, ◌≤◌, ◌<◌}
-use native.Mathlib.Omega.{arith}
-use lib.ListN.{length, get_or}
-use borrow.Author.Count.{below_none, below_more}
-use borrow.Author.Rules.{rules}
-use Rattle.solution_lines.proofs.Inverse.{not_eight, not_same, all_same}
+use lib.ListN.{get_or}
 use Rattle.solution_lines.proofs.inner.same.Given as goal
 
 abbrev pub invariant-loop-i : goal.invariant-loop-i

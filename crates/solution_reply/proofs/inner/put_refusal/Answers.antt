@@ -1,7 +1,6 @@
 -- `solution_reply::inner::put_refusal` meets its contract.
 use Rattle.rows.specs.Rows.{decimal_in}
 use Rattle.solution_reply.proofs.Shown.{refusal_shown}
-use borrow.Author.Rules.{rules}
 use Rattle.solution_reply.proofs.inner.put_refusal.Goals as goal
 
 pub returns-in-Line : goal.returns-in-Line

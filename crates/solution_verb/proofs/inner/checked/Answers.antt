@@ -2,7 +2,6 @@
 use mathlib.Core.Path.{sym}
 use native.Mathlib.Omega.{arith}
 use lib.Seq.{length-take-le}
-use borrow.Author.Rules.{rules}
 use Rattle.solution_verb.proofs.inner.checked.Goals as goal
 
 pub slice_bounds-check-end : goal.slice_bounds-check-end

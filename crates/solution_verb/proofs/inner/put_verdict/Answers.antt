@@ -2,7 +2,6 @@
 use Prim.Native.Nat.{◌≤◌}
 use native.Mathlib.Omega.{arith}
 use lib.ListN.{length}
-use borrow.Author.Rules.{rules}
 use Rattle.solution.specs.declared.Why.TheVariants.{Position, Line, Many}
 use Rattle.solution.specs.declared.Checked.{Checked}
 use Rattle.solution.specs.declared.Checked.TheVariants.{Complete, Wrong, Incomplete, Refused}

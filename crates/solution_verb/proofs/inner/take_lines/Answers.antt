@@ -1,8 +1,6 @@
 -- `solution_verb::inner::take_lines` meets its contract.
-use Prim.Native.Nat.{◌-◌, ◌≤◌}
+use Prim.Native.Nat.{◌-◌}
 use native.Mathlib.Omega.{arith}
-use lib.ListN.{length}
-use borrow.Author.Rules.{rules}
 use Rattle.solution_verb.proofs.inner.take_lines.Goals as goal
 
 pub loop-i-preserved : goal.loop-i-preserved

@@ -1,7 +1,5 @@
 use Prim.Native.Nat.{◌-◌, ◌≤◌}
-use native.Mathlib.Omega.{arith}
 use lib.ListN.{length}
-use borrow.Author.Rules.{rules}
 use Rattle.solution_verb.proofs.inner.take_lines.Given as goal
 
 abbrev pub invariant-loop-i : goal.invariant-loop-i

@@ -1,6 +1,5 @@
 -- `souls::inner::beyond` meets its contract.
 use native.Mathlib.Omega.{arith}
-use borrow.Author.Rules.{rules}
 use Rattle.squares.specs.Squares.{has}
 use Rattle.squares.proofs.Counting.{count_le}
 use Rattle.souls.proofs.inner.beyond.Goals as goal

@@ -1,7 +1,6 @@
 -- `souls::inner::souls` meets its contract.
 use mathlib.Core.Path.{◌∙◌}
 use Rattle.souls.proofs.Counted.{souls_are}
-use borrow.Author.Rules.{rules}
 use Rattle.souls.proofs.inner.souls.Goals as goal
 
 pub returns : goal.returns

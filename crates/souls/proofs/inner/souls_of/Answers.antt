@@ -1,7 +1,6 @@
 -- `souls::inner::souls_of` meets its contract.
 use native.Mathlib.Omega.{arith}
 use lib.ListN.{get_or}
-use borrow.Author.Rules.{rules}
 use Rattle.squares.specs.Squares.{has}
 use Rattle.souls.specs.Sets.{souls_of}
 use Rattle.squares.proofs.Counting.{count_le}

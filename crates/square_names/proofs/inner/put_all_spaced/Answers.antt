@@ -1,9 +1,8 @@
 -- `square_names::inner::put_all_spaced` meets its contract.
-use mathlib.Core.Path.{◌≡◌, refl}
-use lib.ListN.{length}
+use mathlib.Core.Path.{refl}
 use borrow.Author.Rules.{rules}
 use Rattle.square_names.specs.Names.{spaced_name}
-use Rattle.squares.proofs.Members.{Going, going_starts, going_less, going_on, going_done}
+use Rattle.squares.proofs.Members.{going_starts, going_less, going_on, going_done}
 use Rattle.square_names.proofs.Squares.{add_one, one_added, loop_adds}
 use Rattle.square_names.proofs.inner.put_all_spaced.Goals as goal
 

@@ -1,9 +1,8 @@
-use mathlib.Core.Path.{◌≡◌, refl}
+use mathlib.Core.Path.{◌≡◌}
 use lib.ListN.{length}
-use borrow.Author.Rules.{rules}
 use Rattle.square_names.specs.Names.{spaced_name}
-use Rattle.squares.proofs.Members.{Going, going_starts, going_less, going_on, going_done}
-use Rattle.square_names.proofs.Squares.{add_one, one_added, loop_adds}
+use Rattle.squares.proofs.Members.{Going}
+use Rattle.square_names.proofs.Squares.{add_one}
 use Rattle.square_names.proofs.inner.put_all_spaced.Given as goal
 
 abbrev pub invariant-loop-left : goal.invariant-loop-left

@@ -1,5 +1,4 @@
 -- `square_names::inner::put_spaced` meets its contract.
-use borrow.Author.Rules.{rules}
 use Rattle.output.proofs.Added.{used_adds}
 use Rattle.square_names.proofs.inner.put_spaced.Goals as goal
 

@@ -1,5 +1,4 @@
 -- `square_names::inner::put_squares` meets its contract.
-use borrow.Author.Rules.{rules}
 use Rattle.output.proofs.Added.{used_adds}
 use Rattle.output.proofs.Adding.{adds_as}
 use Rattle.square_names.proofs.Squares.{dash_is, others_room, names_added}

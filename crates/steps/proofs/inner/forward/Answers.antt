@@ -1,5 +1,4 @@
 -- `steps::inner::forward` meets its contract.
-use borrow.Author.Rules.{rules}
 use Rattle.steps.proofs.inner.forward.Goals as goal
 
 pub returns-in-White : goal.returns-in-White

@@ -1,5 +1,4 @@
 -- `steps::inner::get_king_moves` meets its contract.
-use borrow.Author.Rules.{rules}
 use Rattle.steps.proofs.Steps.{ring_is}
 use Rattle.steps.proofs.inner.get_king_moves.Goals as goal
 

@@ -1,5 +1,4 @@
 -- `steps::inner::get_knight_moves` meets its contract.
-use borrow.Author.Rules.{rules}
 use Rattle.steps.proofs.Steps.{leaps_are}
 use Rattle.steps.proofs.inner.get_knight_moves.Goals as goal
 

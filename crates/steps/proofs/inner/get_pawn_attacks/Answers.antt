@@ -1,5 +1,4 @@
 -- `steps::inner::get_pawn_attacks` meets its contract.
-use borrow.Author.Rules.{rules}
 use Rattle.steps.proofs.Steps.{attacks_are}
 use Rattle.steps.proofs.inner.get_pawn_attacks.Goals as goal
 

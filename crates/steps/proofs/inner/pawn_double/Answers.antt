@@ -1,5 +1,4 @@
 -- `steps::inner::pawn_double` meets its contract.
-use borrow.Author.Rules.{rules}
 use Rattle.steps.proofs.Steps.{double_is}
 use Rattle.steps.proofs.inner.pawn_double.Goals as goal
 

@@ -1,5 +1,4 @@
 -- `steps::inner::pawn_step` meets its contract.
-use borrow.Author.Rules.{rules}
 use Rattle.steps.proofs.Steps.{step_is}
 use Rattle.steps.proofs.inner.pawn_step.Goals as goal
 

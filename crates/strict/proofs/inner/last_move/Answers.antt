@@ -2,7 +2,6 @@
 use mathlib.Core.Path.{sym, ◌∙◌}
 use native.Mathlib.Omega.{arith}
 use Rattle.strict.proofs.Told.{answers_some, answers_none, answers_refused}
-use borrow.Author.Rules.{rules}
 use Rattle.strict.proofs.inner.last_move.Goals as goal
 
 pub today-p-requires : goal.today-p-requires

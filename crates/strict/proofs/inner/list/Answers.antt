@@ -1,6 +1,5 @@
 -- `strict::inner::list` meets its contract.
 use Rattle.strict.proofs.Told.{listed_told}
-use borrow.Author.Rules.{rules}
 use Rattle.strict.proofs.inner.list.Goals as goal
 
 pub returns : goal.returns

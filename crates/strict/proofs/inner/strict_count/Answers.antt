@@ -1,7 +1,6 @@
 -- `strict::inner::strict_count` meets its contract.
 use mathlib.Core.Path.{sym, ◌∙◌}
 use Rattle.strict.proofs.Told.{counted_told, counted_refused}
-use borrow.Author.Rules.{rules}
 use Rattle.strict.proofs.inner.strict_count.Goals as goal
 
 pub today-p-requires : goal.today-p-requires

@@ -4,7 +4,6 @@ use native.Mathlib.Omega.{arith}
 use Rattle.laws.specs.declared.ChessRetraction.{ChessRetraction}
 use Rattle.strict.specs.declared.Found.TheVariants.{At}
 use Rattle.strict.proofs.Onward.{found_at, found_none, found_end, found_refused}
-use borrow.Author.Rules.{rules}
 use Rattle.strict.proofs.inner.strict_from.Goals as goal
 
 pub returns-then-start-ge-PLACES : goal.returns-then-start-ge-PLACES

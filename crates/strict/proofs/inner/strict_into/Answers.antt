@@ -1,7 +1,6 @@
 -- `strict::inner::strict_into` meets its contract.
 use mathlib.Core.Path.{sym, ◌∙◌}
 use Rattle.strict.proofs.Told.{listed_refused}
-use borrow.Author.Rules.{rules}
 use Rattle.strict.proofs.inner.strict_into.Goals as goal
 
 pub list-requires : goal.list-requires

@@ -1,13 +1,9 @@
-use mathlib.Core.Path.{◌≡◌, refl, sym, ap, ◌∙◌}
+use mathlib.Core.Path.{◌≡◌}
 use Prim.Native.Nat.{◌+◌, ◌-◌, ◌≤◌}
-use native.Mathlib.Omega.{arith}
 use lib.ListN.{length}
-use borrow.Author.Rules.{rules}
 use Rattle.slots.specs.Slots.{fill_from}
-use Rattle.slots.proofs.Filling.{fill_on}
 use Rattle.strict_search.specs.inner.Keeping.{kept_test, kept_moves}
-use Rattle.strict_search.proofs.Remaining.{rest, kept_rest, over, placed_in}
-use Rattle.strict_search.proofs.Sourcing.{kept_here, kept_on}
+use Rattle.strict_search.proofs.Remaining.{rest}
 use Rattle.strict_search.proofs.inner.fill.Given as goal
 
 abbrev pub invariant-loop-i : goal.invariant-loop-i

@@ -1,9 +1,8 @@
 -- `strict_search::inner::gather` meets its contract.
-use Prim.Native.Nat.{◌-◌, ◌≤◌}
+use Prim.Native.Nat.{◌-◌}
 use native.Mathlib.Omega.{arith}
-use borrow.Author.Rules.{rules}
 use Rattle.laws.specs.Boards.{pos_at}
-use Rattle.strict_search.proofs.Sourcing.{Gathered, gathered_none, gathered_more, gathered_le, gathered_all}
+use Rattle.strict_search.proofs.Sourcing.{gathered_none, gathered_more, gathered_le, gathered_all}
 use Rattle.strict_search.proofs.inner.gather.Goals as goal
 
 pub loop-s-init : goal.loop-s-init

@@ -1,8 +1,6 @@
 use Prim.Native.Nat.{◌-◌, ◌≤◌}
-use native.Mathlib.Omega.{arith}
-use borrow.Author.Rules.{rules}
 use Rattle.laws.specs.Boards.{pos_at}
-use Rattle.strict_search.proofs.Sourcing.{Gathered, gathered_none, gathered_more, gathered_le, gathered_all}
+use Rattle.strict_search.proofs.Sourcing.{Gathered}
 use Rattle.strict_search.proofs.inner.gather.Given as goal
 
 abbrev pub invariant-loop-s : goal.invariant-loop-s

@@ -2,7 +2,6 @@
 use mathlib.Core.Path.{◌∙◌, ap}
 use native.Mathlib.Omega.{arith}
 use lib.ListN.{length}
-use borrow.Author.Rules.{rules}
 use Rattle.laws.specs.Boards.{pos_at}
 use Rattle.slots.specs.Slots.{fill_from}
 use Rattle.slots.proofs.Telling.{listed_roomless, listed_written}

@@ -1,9 +1,6 @@
 use Prim.Native.Nat.{◌-◌}
-use native.Mathlib.Omega.{arith}
 use Rattle.laws.specs.Boards.{pos_at}
 use Rattle.strict_search.specs.inner.Searching.{test_of, Skips}
-use Rattle.strict_search.proofs.Skipping.{skips_none, skips_both}
-use Rattle.strict_search.proofs.Sourcing.{first_exact, next_here}
 use Rattle.strict_search.proofs.inner.next_from.Given as goal
 
 abbrev pub invariant-loop-i : goal.invariant-loop-i

@@ -5,8 +5,6 @@ use Rattle.geometry.specs.declared.Color.{Color}
 use Rattle.laws.specs.Men.{is_of, man_of}
 use Rattle.unmake.specs.Retracted.{held_for}
 use Rattle.moves.proofs.Steps.{not_then, and_then}
-use Rattle.squares.proofs.Testing.{denied, granted}
-use borrow.Author.Rules.{rules}
 use Rattle.strict_sets.proofs.inner.may_go.Goals as goal
 
 pub is_of-requires : goal.is_of-requires

@@ -2,14 +2,12 @@
 use mathlib.Core.Path.{◌∙◌, sym, ap, subst}
 use Rattle.geometry.specs.declared.Color.{Color}
 use Rattle.squares.specs.Squares.{set_of}
-use Rattle.squares.proofs.Testing.{denied, granted}
 use Rattle.laws.specs.Men.{man_of}
 use Rattle.laws.specs.Boards.{pos_at}
 use Rattle.strict_sets.specs.declared.Targets.{Targets}
 use Rattle.strict_sets.specs.inner.Parts.{special}
 use Rattle.strict_sets.specs.inner.Sets.{Exact}
 use Rattle.strict_sets.proofs.Placing.{none_told, named_told, goes_there}
-use borrow.Author.Rules.{rules}
 use Rattle.strict_sets.proofs.inner.targets_of.Goals as goal
 
 pub may_go-requires : goal.may_go-requires

@@ -1,6 +1,5 @@
 -- `strict_sets::inner::with_asked` meets its contract.
 use Rattle.strict_sets.proofs.Placing.{not_theirs_there, open_told}
-use borrow.Author.Rules.{rules}
 use Rattle.strict_sets.proofs.inner.with_asked.Goals as goal
 
 pub half-same-requires : goal.half-same-requires

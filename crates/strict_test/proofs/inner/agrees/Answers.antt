@@ -2,7 +2,6 @@
 use mathlib.Core.Path.{◌∙◌}
 use Rattle.strict_test.specs.inner.Strictly.{agrees_for}
 use Rattle.strict_test.proofs.Earlier.{agrees_named, agrees_none}
-use borrow.Author.Rules.{rules}
 use Rattle.strict_test.proofs.inner.agrees.Goals as goal
 
 pub returns-in-Any : goal.returns-in-Any

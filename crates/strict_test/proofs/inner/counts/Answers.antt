@@ -4,7 +4,6 @@ use mathlib.Core.Bool.{◌&&◌}
 use Rattle.squares.specs.Tests.{◌and◌}
 use Rattle.double_step.specs.inner.Parts.{step_for}
 use Rattle.strict_test.specs.inner.Strictly.{counts_for}
-use borrow.Author.Rules.{rules}
 use Rattle.strict_test.proofs.inner.counts.Goals as goal
 
 pub returns : goal.returns

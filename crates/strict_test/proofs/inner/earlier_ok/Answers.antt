@@ -1,8 +1,6 @@
 -- `strict_test::inner::earlier_ok` meets its contract.
 use mathlib.Core.Path.{sym, ◌∙◌}
-use Rattle.squares.proofs.Testing.{denied, granted}
 use Rattle.strict_test.proofs.Earlier.{miscounts, no_agreement, not_safe, then_calm}
-use borrow.Author.Rules.{rules}
 use Rattle.strict_test.proofs.inner.earlier_ok.Goals as goal
 
 pub returns-then-not-counts : goal.returns-then-not-counts

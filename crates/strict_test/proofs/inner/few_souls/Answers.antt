@@ -1,7 +1,6 @@
 -- `strict_test::inner::few_souls` meets its contract.
 use Rattle.laws.specs.Boards.{men_in}
 use Rattle.strict_test.proofs.Earlier.{souls_by_lem}
-use borrow.Author.Rules.{rules}
 use Rattle.strict_test.proofs.inner.few_souls.Goals as goal
 
 pub returns : goal.returns

@@ -1,6 +1,5 @@
 -- `strict_test::inner::is_safe` meets its contract.
 use Rattle.strict_test.specs.inner.Strictly.{safe_for}
-use borrow.Author.Rules.{rules}
 use Rattle.strict_test.proofs.inner.is_safe.Goals as goal
 
 pub returns-in-Plain : goal.returns-in-Plain

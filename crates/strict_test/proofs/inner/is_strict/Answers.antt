@@ -1,7 +1,6 @@
 -- `strict_test::inner::is_strict` meets its contract.
 use mathlib.Core.Path.{◌∙◌}
 use Rattle.strict_test.proofs.Earlier.{earlier_ready, strict_told, strict_refused}
-use borrow.Author.Rules.{rules}
 use Rattle.strict_test.proofs.inner.is_strict.Goals as goal
 
 pub earlier_ok-requires : goal.earlier_ok-requires

@@ -6,7 +6,6 @@ use Rattle.geometry.specs.declared.Color.{Color}
 use Rattle.laws.specs.Attacks.{attacked}
 use Rattle.laws.specs.Boards.{men_in}
 use Rattle.squares.specs.Tests.{◌and◌}
-use borrow.Author.Rules.{rules}
 use Rattle.strict_test.proofs.inner.unattacked.Goals as goal
 
 pub returns : goal.returns

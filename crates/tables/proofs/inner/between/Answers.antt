@@ -1,5 +1,4 @@
 -- `tables::inner::between` meets its contract.
-use borrow.Author.Rules.{rules}
 use Rattle.tables.proofs.inner.between.Goals as goal
 
 pub returns : goal.returns

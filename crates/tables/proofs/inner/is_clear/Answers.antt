@@ -1,5 +1,4 @@
 -- `tables::inner::is_clear` meets its contract.
-use borrow.Author.Rules.{rules}
 use Rattle.tables.proofs.Paths.{clear_is}
 use Rattle.tables.proofs.inner.is_clear.Goals as goal
 

@@ -1,5 +1,4 @@
 -- `text::inner::print` meets its contract.
-use borrow.Author.Rules.{rules}
 use Rattle.text.proofs.inner.print.Goals as goal
 
 pub returns : goal.returns

@@ -1,5 +1,4 @@
 -- `text::inner::read` meets its contract.
-use borrow.Author.Rules.{rules}
 use Rattle.text.proofs.RoundTrip.{read_in, read_out}
 use Rattle.text.proofs.inner.read.Goals as goal
 

@@ -1,6 +1,5 @@
 -- `turning::inner::square_turned` meets its contract.
 use mathlib.Core.Path.{sym, ◌∙◌}
-use borrow.Author.Rules.{rules}
 use Rattle.men.specs.inner.Standing.{beside_of}
 use Rattle.turning.specs.inner.Named.{square_turned}
 use Rattle.turning.proofs.inner.square_turned.Goals as goal

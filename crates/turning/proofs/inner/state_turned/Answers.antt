@@ -1,6 +1,5 @@
 -- `turning::inner::state_turned` meets its contract.
 use mathlib.Core.Path.{sym}
-use borrow.Author.Rules.{rules}
 use Rattle.laws.specs.Boards.{men_in}
 use Rattle.laws.proofs.Turning.{unknown_stays}
 use Rattle.turning.specs.inner.Named.{square_turned}

@@ -1,5 +1,4 @@
 -- `un_en_passant::inner::beside_reborn` meets its contract.
-use borrow.Author.Rules.{rules}
 use Rattle.squares.specs.Tests.{◌and◌}
 use Rattle.un_en_passant.specs.UnEnPassants.{beside_reborn}
 use Rattle.un_en_passant.proofs.inner.beside_reborn.Goals as goal

@@ -1,11 +1,10 @@
 -- `un_en_passant::inner::each` meets its contract.
 use Prim.Native.Nat.{ℕ}
-use borrow.Author.Rules.{rules}
 use Rattle.retraction_list.specs.declared.RetractionList.{RetractionList}
 use Rattle.retraction_list.specs.inner.Pushing.{pushed_all}
 use Rattle.un_en_passant.specs.UnEnPassants.{passant_of}
 use Rattle.squares.proofs.Members.{lowest_lt, going_starts, going_less, going_on}
-use Rattle.retraction_list.proofs.Pushing.{Pushing, pushing_done}
+use Rattle.retraction_list.proofs.Pushing.{pushing_done}
 use Rattle.un_en_passant.proofs.inner.each.Goals as goal
 
 pub loop-left-init : goal.loop-left-init

@@ -1,5 +1,4 @@
 -- `un_en_passant::inner::one_of_two` meets its contract.
-use borrow.Author.Rules.{rules}
 use Rattle.un_en_passant.specs.UnEnPassants.{one_of_two}
 use Rattle.un_en_passant.proofs.inner.one_of_two.Goals as goal
 

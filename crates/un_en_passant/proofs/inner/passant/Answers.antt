@@ -1,5 +1,4 @@
 -- `un_en_passant::inner::passant` meets its contract.
-use borrow.Author.Rules.{rules}
 use Rattle.squares.specs.Tests.{◌or◌}
 use Rattle.retraction_list.specs.inner.Pushing.{pushed_all}
 use Rattle.un_en_passant.specs.UnEnPassants.{passant_of}

@@ -1,5 +1,4 @@
 -- `un_en_passant::inner::passant_at` meets its contract.
-use borrow.Author.Rules.{rules}
 use Rattle.un_en_passant.specs.UnEnPassants.{passant_at}
 use Rattle.un_en_passant.proofs.inner.passant_at.Goals as goal
 

@@ -1,10 +1,9 @@
 -- `un_en_passant::inner::rays` meets its contract.
 use mathlib.Core.Path.{ap}
 use lib.Bits.{bit_or}
-use borrow.Author.Rules.{rules}
 use Rattle.geometry.specs.Lines.{between_of}
 use Rattle.un_en_passant.specs.UnEnPassants.{rays_of}
-use Rattle.squares.proofs.Members.{lowest_lt, Going, going_starts, going_less, going_on, going_done}
+use Rattle.squares.proofs.Members.{lowest_lt, going_starts, going_less, going_on, going_done}
 use Rattle.un_en_passant.proofs.inner.rays.Goals as goal
 
 pub loop-left-init : goal.loop-left-init

@@ -1,5 +1,4 @@
 -- `un_en_passant::inner::two_others` meets its contract.
-use borrow.Author.Rules.{rules}
 use Rattle.un_en_passant.specs.UnEnPassants.{two_others}
 use Rattle.un_en_passant.proofs.inner.two_others.Goals as goal
 

@@ -1,5 +1,4 @@
 -- `un_en_passant::inner::un_en_passants` meets its contract.
-use borrow.Author.Rules.{rules}
 use Rattle.un_en_passant.specs.UnEnPassants.{un_en_passants_of}
 use Rattle.un_en_passant.proofs.inner.un_en_passants.Goals as goal
 

@@ -1,6 +1,5 @@
 -- `un_en_passant::inner::under` meets its contract.
 use borrow.Author.Tests.{eq-eqb, ne_eqb}
-use borrow.Author.Rules.{rules}
 use Rattle.un_en_passant.specs.UnEnPassants.{under_of}
 use Rattle.un_en_passant.proofs.inner.under.Goals as goal
 

@@ -1,5 +1,4 @@
 -- `un_en_passant::inner::under_one` meets its contract.
-use borrow.Author.Rules.{rules}
 use Rattle.squares.specs.Tests.{◌and◌}
 use Rattle.un_en_passant.specs.UnEnPassants.{under_one}
 use Rattle.un_en_passant.proofs.inner.under_one.Goals as goal

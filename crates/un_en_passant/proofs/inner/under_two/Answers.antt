@@ -1,5 +1,4 @@
 -- `un_en_passant::inner::under_two` meets its contract.
-use borrow.Author.Rules.{rules}
 use Rattle.un_en_passant.specs.UnEnPassants.{under_two}
 use Rattle.un_en_passant.proofs.inner.under_two.Goals as goal
 

@@ -1,5 +1,4 @@
 -- `un_en_passant::inner::vacant` meets its contract.
-use borrow.Author.Rules.{rules}
 use Rattle.un_en_passant.specs.UnEnPassants.{vacant_of}
 use Rattle.un_en_passant.proofs.inner.vacant.Goals as goal
 

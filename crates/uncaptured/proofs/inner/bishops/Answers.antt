@@ -1,5 +1,4 @@
 -- `uncaptured::inner::bishops` meets its contract.
-use borrow.Author.Rules.{rules}
 use Rattle.uncaptured.specs.Masks.{bishops_of}
 use Rattle.uncaptured.proofs.inner.bishops.Goals as goal
 

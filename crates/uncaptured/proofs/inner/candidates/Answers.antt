@@ -1,5 +1,4 @@
 -- `uncaptured::inner::candidates` meets its contract.
-use borrow.Author.Rules.{rules}
 use Rattle.uncaptured.specs.Masks.{masks_of}
 use Rattle.uncaptured.proofs.inner.candidates.Goals as goal
 

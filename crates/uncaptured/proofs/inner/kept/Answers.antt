@@ -1,5 +1,4 @@
 -- `uncaptured::inner::kept` meets its contract.
-use borrow.Author.Rules.{rules}
 use Rattle.squares.specs.Tests.{◌and◌}
 use Rattle.uncaptured.specs.Masks.{kept_of}
 use Rattle.uncaptured.proofs.inner.kept.Goals as goal

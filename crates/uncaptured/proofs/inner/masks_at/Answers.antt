@@ -1,5 +1,4 @@
 -- `uncaptured::inner::masks_at` meets its contract.
-use borrow.Author.Rules.{rules}
 use Rattle.uncaptured.specs.Masks.{masks_at}
 use Rattle.uncaptured.proofs.inner.masks_at.Goals as goal
 

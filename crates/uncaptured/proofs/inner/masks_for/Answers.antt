@@ -1,6 +1,5 @@
 -- `uncaptured::inner::masks_for` meets its contract.
 use borrow.Author.Tests.{lt-ltb, le-ltb}
-use borrow.Author.Rules.{rules}
 use Rattle.uncaptured.specs.Masks.{masks_for}
 use Rattle.uncaptured.proofs.inner.masks_for.Goals as goal
 

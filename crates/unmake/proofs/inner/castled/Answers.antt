@@ -2,7 +2,6 @@
 use Rattle.squares.specs.Tests.{◌and◌}
 use Rattle.laws.specs.Boards.{men_in}
 use Rattle.position.proofs.Editing.{no_man}
-use borrow.Author.Rules.{rules}
 use Rattle.unmake.proofs.inner.castled.Goals as goal
 
 pub returns : goal.returns

@@ -1,6 +1,5 @@
 -- `unmake::inner::holds_at` meets its contract.
 use Rattle.squares.specs.Tests.{◌and◌, ◌or◌}
-use borrow.Author.Rules.{rules}
 use Rattle.unmake.proofs.inner.holds_at.Goals as goal
 
 pub returns : goal.returns

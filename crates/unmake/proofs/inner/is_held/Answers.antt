@@ -1,7 +1,6 @@
 -- `unmake::inner::is_held` meets its contract.
 use Rattle.squares.specs.Tests.{◌or◌}
 use Rattle.unmake.specs.Retracted.{held_for}
-use borrow.Author.Rules.{rules}
 use Rattle.unmake.proofs.inner.is_held.Goals as goal
 
 pub returns : goal.returns

@@ -1,5 +1,4 @@
 -- `unmake::inner::left_by` meets its contract.
-use borrow.Author.Rules.{rules}
 use Rattle.laws.specs.declared.Piece.TheVariants.{Pawn}
 use Rattle.laws.specs.Men.{man}
 use Rattle.position.proofs.Editing.{is_man}

@@ -1,5 +1,4 @@
 -- `unmake::inner::promoted_to` meets its contract.
-use borrow.Author.Rules.{rules}
 use Rattle.unmake.proofs.Answering.{promoted_number}
 use Rattle.unmake.proofs.inner.promoted_to.Goals as goal
 

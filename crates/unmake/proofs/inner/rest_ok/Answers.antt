@@ -1,6 +1,5 @@
 -- `unmake::inner::rest_ok` meets its contract.
 use mathlib.Core.Path.{◌∙◌, ap}
-use borrow.Author.Rules.{rules}
 use Rattle.laws.specs.Men.{Man, is_pawn}
 use Rattle.laws.specs.Boards.{men_in, pos_at}
 use Rattle.position.proofs.Editing.{is_man}

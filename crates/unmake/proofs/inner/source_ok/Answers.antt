@@ -2,7 +2,6 @@
 use mathlib.Core.Path.{◌∙◌, ap, ap₂}
 use mathlib.Core.Bool.{Bool, ◌&&◌}
 use lib.Dec.{ltb}
-use borrow.Author.Rules.{rules}
 use Rattle.squares.specs.Tests.{◌and◌}
 use Rattle.geometry.specs.declared.Color.{Color}
 use Rattle.laws.specs.Men.{Man, is_of}

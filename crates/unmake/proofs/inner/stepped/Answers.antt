@@ -6,7 +6,6 @@ use borrow.Author.Rules.{rules}
 use Rattle.laws.specs.Boards.{pos_at}
 use Rattle.position.specs.Answers.{answered}
 use Rattle.unmake.specs.Retracted.{stepped_to}
-use Rattle.squares.proofs.Testing.{denied, granted}
 use Rattle.unmake.proofs.Answering.{step_over, step_no, leaves, back_clean, step_is, position_is}
 use Rattle.unmake.proofs.inner.stepped.Goals as goal
 

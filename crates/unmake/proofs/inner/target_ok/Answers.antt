@@ -2,7 +2,6 @@
 use mathlib.Core.Path.{ap}
 use mathlib.Core.Bool.{Bool, ◌&&◌}
 use lib.Dec.{ltb}
-use borrow.Author.Rules.{rules}
 use Rattle.squares.specs.Tests.{◌and◌}
 use Rattle.laws.specs.Boards.{men_in}
 use Rattle.unmake.specs.Retracted.{target_for}

@@ -1,6 +1,5 @@
 -- `unmake::inner::undoable` meets its contract.
 use Rattle.unmake.specs.inner.Parts.{undoable_for}
-use borrow.Author.Rules.{rules}
 use Rattle.unmake.proofs.inner.undoable.Goals as goal
 
 pub returns-in-Plain : goal.returns-in-Plain

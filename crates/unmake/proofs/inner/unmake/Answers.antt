@@ -1,9 +1,7 @@
 -- `unmake::inner::unmake` meets its contract.
 use mathlib.Core.Path.{◌∙◌, sym}
-use borrow.Author.Rules.{rules}
 use Rattle.laws.specs.Boards.{pos_at}
 use Rattle.unmake.specs.Retracted.{unmade_to}
-use Rattle.squares.proofs.Testing.{denied, granted}
 use Rattle.unmake.proofs.Answering.{source_in, target_in}
 use Rattle.unmake.proofs.inner.unmake.Goals as goal
 

@@ -1,5 +1,4 @@
 -- `view::inner::adjacent_files` meets its contract.
-use borrow.Author.Rules.{rules}
 use Rattle.view.proofs.Adjacent.{adjacent_are}
 use Rattle.view.proofs.inner.adjacent_files.Goals as goal
 

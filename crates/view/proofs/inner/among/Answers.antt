@@ -1,6 +1,5 @@
 -- `view::inner::among` meets its contract.
 use mathlib.Core.Path.{refl}
-use borrow.Author.Rules.{rules}
 use Rattle.view.specs.Views.{within}
 use Rattle.view.proofs.inner.among.Goals as goal
 

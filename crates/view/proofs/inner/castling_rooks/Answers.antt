@@ -1,5 +1,4 @@
 -- `view::inner::castling_rooks` meets its contract.
-use borrow.Author.Rules.{rules}
 use Rattle.view.specs.Views.{castling_rooks}
 use Rattle.view.proofs.inner.castling_rooks.Goals as goal
 

@@ -1,5 +1,4 @@
 -- `view::inner::color_set` meets its contract.
-use borrow.Author.Rules.{rules}
 use Rattle.view.proofs.inner.color_set.Goals as goal
 
 pub returns-in-White : goal.returns-in-White

@@ -1,5 +1,4 @@
 -- `view::inner::look` meets its contract.
-use borrow.Author.Rules.{rules}
 use Rattle.squares.specs.Tests.{◌or◌}
 use Rattle.view.specs.Views.{view_of}
 use Rattle.view.proofs.inner.look.Goals as goal

@@ -1,6 +1,5 @@
 -- `view::inner::to_square` meets its contract.
 use native.Mathlib.Omega.{arith}
-use borrow.Author.Rules.{rules}
 use Rattle.squares.specs.Members.{first_of}
 use Rattle.view.proofs.inner.to_square.Goals as goal
 

@@ -2,13 +2,6 @@ use mathlib.Core.Path.{refl, sym, ◌∙◌, ap}
 use Prim.Native.Nat.{ℕ}
 use Rattle.volume_add.specs.Adding.{number_tested}
 use Rattle.volume_add.specs.inner.Longer.{misnumbered, unjudged, narrow, added}
-use borrow.Author.Rules.{rules}
-use Rattle.volume_add.proofs.inner.add_to.Reads as reads
-use Rattle.volume_add.proofs.inner.add_to.Lts as lts
-use Rattle.accept.proofs.inner.judge.Reads as judge-reads
-use Rattle.volume_add.proofs.inner.last.Reads as last-reads
-use Rattle.volume_add.proofs.inner.test_number.Reads as test-number-reads
-use Rattle.volume_add.proofs.inner.write.Reads as write-reads
 use Rattle.volume_add.proofs.inner.add_to.Goals as goal
 
 -- src/inner.rt:87:25

@@ -1,10 +1,6 @@
 use mathlib.Core.Path.{◌∙◌, ap}
 use Rattle.volume_contents.specs.declared.Entry.{Entry}
 use Rattle.volume_add.proofs.Numbers.{number_before_lem}
-use borrow.Author.Rules.{rules}
-use Rattle.volume_add.proofs.inner.last.Reads as reads
-use Rattle.volume_add.proofs.inner.last.Lts as lts
-use Rattle.volume_contents.proofs.inner.entry.Reads as entry-reads
 use Rattle.volume_add.proofs.inner.last.Goals as goal
 
 -- src/inner.rt:20:1

@@ -1,8 +1,6 @@
 use borrow.Author.Tests.{lt-ltb, le-ltb}
 use Rattle.squares.specs.Tests.{◌and◌}
 use Rattle.volume_add.specs.Adding.{number_tested}
-use Rattle.volume_add.proofs.inner.test_number.Reads as reads
-use Rattle.volume_add.proofs.inner.test_number.Lts as lts
 use Rattle.volume_add.proofs.inner.test_number.Goals as goal
 
 -- src/inner.rt:37:13

@@ -3,14 +3,6 @@ use native.Mathlib.Omega.{arith}
 use lib.ListN.{length}
 use Rattle.volume_add.proofs.Lengthening.{longer_in}
 use borrow.Author.Rules.{rules}
-use Rattle.volume_add.proofs.inner.write.Reads as reads
-use Rattle.volume_add.proofs.inner.write.Lts as lts
-use Rattle.output.proofs.inner.copy.Reads as copy-reads
-use Rattle.volume_add.proofs.inner.put_rows.Reads as put-rows-reads
-use Rattle.volume_body.proofs.inner.body_of.Reads as body-of-reads
-use Rattle.volume_contents.proofs.inner.head_of.Reads as head-of-reads
-use Rattle.volume_contents.proofs.inner.row_of.Reads as row-of-reads
-use Rattle.volume_make.proofs.inner.put.Reads as put_reads
 use Rattle.volume_add.proofs.inner.write.Goals as goal
 
 -- src/inner.rt:69:5

@@ -1,6 +1,5 @@
 -- `volume_body::inner::body_of` meets its contract.
 use native.Mathlib.Omega.{arith}
-use borrow.Author.Rules.{rules}
 use Rattle.volume_body.proofs.Writing.{body_held, pairs_len}
 use Rattle.volume_body.proofs.inner.body_of.Goals as goal
 

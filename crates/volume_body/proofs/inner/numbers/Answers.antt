@@ -1,11 +1,9 @@
 -- `volume_body::inner::numbers` meets its contract.
-use mathlib.Core.Path.{◌≡◌, refl}
-use Prim.Native.Nat.{ℕ, ◌-◌, ◌≤◌, ◌<◌}
+use mathlib.Core.Path.{refl}
+use Prim.Native.Nat.{◌-◌}
 use native.Mathlib.Omega.{arith}
-use lib.ListN.{length, get_or, length-set}
+use lib.ListN.{length-set}
 use borrow.Author.Count.{below_none}
-use borrow.Author.Rules.{rules}
-use Rattle.volume_body.specs.inner.Reading.{half_at}
 use Rattle.volume_body.proofs.Inverse.{numbers_more}
 use Rattle.volume_body.proofs.inner.numbers.Goals as goal
 

@@ -1,11 +1,7 @@
-use mathlib.Core.Path.{◌≡◌, refl}
+use mathlib.Core.Path.{◌≡◌}
 use Prim.Native.Nat.{ℕ, ◌-◌, ◌≤◌, ◌<◌}
-use native.Mathlib.Omega.{arith}
-use lib.ListN.{length, get_or, length-set}
-use borrow.Author.Count.{below_none}
-use borrow.Author.Rules.{rules}
+use lib.ListN.{length, get_or}
 use Rattle.volume_body.specs.inner.Reading.{half_at}
-use Rattle.volume_body.proofs.Inverse.{numbers_more}
 use Rattle.volume_body.proofs.inner.numbers.Given as goal
 
 abbrev pub invariant-loop-p : goal.invariant-loop-p

@@ -1,7 +1,6 @@
 -- `volume_body::inner::pair` meets its contract.
 use mathlib.Core.Path.{◌∙◌, ap, ap₂}
 use Prim.Native.Nat.{ℕ, ◌+◌, ◌*◌}
-use borrow.Author.Rules.{rules}
 use Rattle.laws.specs.Men.{man_number}
 use Rattle.laws.specs.Boards.{men_in}
 use Rattle.volume_body.specs.Layout.{pair_at}

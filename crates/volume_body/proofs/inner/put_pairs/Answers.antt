@@ -1,10 +1,8 @@
 -- `volume_body::inner::put_pairs` meets its contract.
 use mathlib.Core.Path.{refl}
-use Prim.Native.Nat.{◌-◌, ◌≤◌}
+use Prim.Native.Nat.{◌-◌}
 use native.Mathlib.Omega.{arith}
 use Rattle.laws.specs.Boards.{men_in}
-use Rattle.men_field.specs.inner.Lines.{Holds}
-use Rattle.volume_body.specs.Layout.{men_bytes}
 use Rattle.volume_body.proofs.Writing.{pairs_none, pairs_more, pairs_done, pairs_len}
 use Rattle.volume_body.proofs.inner.put_pairs.Goals as goal
 

@@ -1,10 +1,7 @@
-use mathlib.Core.Path.{refl}
 use Prim.Native.Nat.{◌-◌, ◌≤◌}
-use native.Mathlib.Omega.{arith}
 use Rattle.laws.specs.Boards.{men_in}
 use Rattle.men_field.specs.inner.Lines.{Holds}
 use Rattle.volume_body.specs.Layout.{men_bytes}
-use Rattle.volume_body.proofs.Writing.{pairs_none, pairs_more, pairs_done, pairs_len}
 use Rattle.volume_body.proofs.inner.put_pairs.Given as goal
 
 abbrev pub invariant-loop-j : goal.invariant-loop-j

@@ -1,6 +1,5 @@
 -- `volume_body::inner::raw_of` meets its contract.
 use mathlib.Core.Path.{◌∙◌, ap}
-use borrow.Author.Rules.{rules}
 use Rattle.laws.specs.Boards.{kind_sets, color_sets}
 use Rattle.volume_body.proofs.Inverse.{numbers_men}
 use Rattle.volume_body.proofs.inner.raw_of.Goals as goal

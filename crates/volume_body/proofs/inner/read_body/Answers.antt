@@ -1,5 +1,4 @@
 -- `volume_body::inner::read_body` meets its contract.
-use borrow.Author.Rules.{rules}
 use Rattle.volume_body.proofs.Inverse.{in_form_lem, out_of_form, no_answer, no_length}
 use Rattle.volume_body.proofs.inner.read_body.Goals as goal
 

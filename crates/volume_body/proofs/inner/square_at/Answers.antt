@@ -1,6 +1,5 @@
 -- `volume_body::inner::square_at` meets its contract.
 use mathlib.Core.Path.{refl}
-use borrow.Author.Rules.{rules}
 use Rattle.volume_body.specs.Layout.{square_at}
 use Rattle.volume_body.proofs.inner.square_at.Goals as goal
 

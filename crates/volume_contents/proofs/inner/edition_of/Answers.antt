@@ -1,6 +1,4 @@
 use borrow.Author.Tests.{ne_eqb}
-use Rattle.volume_contents.proofs.inner.edition_of.Reads as reads
-use Rattle.volume_contents.proofs.inner.edition_of.Lts as lts
 use Rattle.volume_contents.proofs.inner.edition_of.Goals as goal
 
 -- src/inner.rt:32:9

@@ -3,10 +3,6 @@ use native.Mathlib.Omega.{arith}
 use mir.Val.{Fits}
 use mir.Syntax.{w8}
 use borrow.Author.Rules.{rules}
-use Rattle.volume_contents.proofs.inner.entry.Reads as reads
-use Rattle.volume_contents.proofs.inner.entry.Lts as lts
-use Rattle.volume_contents.proofs.inner.byte.Reads as byte-Reads
-use Rattle.volume_contents.proofs.inner.two.Reads as two-reads
 use Rattle.volume_contents.proofs.inner.entry.Goals as goal
 
 -- src/inner.rt:87:1

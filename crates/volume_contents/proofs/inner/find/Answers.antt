@@ -2,10 +2,7 @@ use mathlib.Core.Path.{subst}
 use Prim.Native.Nat.{◌-◌, ◌<◌, ◌≤◌}
 use native.Mathlib.Omega.{arith}
 use Rattle.volume_contents.specs.declared.Entry.{Entry}
-use Rattle.volume_contents.proofs.Walking.{Between, find_none, find_low, find_high, find_done}
-use Rattle.volume_contents.proofs.inner.find.Reads as reads
-use Rattle.volume_contents.proofs.inner.find.Lts as lts
-use Rattle.volume_contents.proofs.inner.entry.Reads as entry-reads
+use Rattle.volume_contents.proofs.Walking.{find_none, find_low, find_high, find_done}
 use Rattle.volume_contents.proofs.inner.find.Goals as goal
 
 -- src/inner.rt:141:5

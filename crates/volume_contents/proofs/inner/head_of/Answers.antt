@@ -1,9 +1,5 @@
 use mathlib.Core.Path.{refl}
 use Rattle.men_field.proofs.Adding.{holds_none, holds_more}
-use borrow.Author.Rules.{rules}
-use Rattle.volume_contents.proofs.inner.head_of.Reads as reads
-use Rattle.volume_contents.proofs.inner.head_of.Lts as lts
-use Rattle.men_field.proofs.inner.push.Reads as push-reads
 use Rattle.volume_contents.proofs.inner.head_of.Goals as goal
 
 -- src/inner.rt:38:1

@@ -3,11 +3,6 @@ use mathlib.Core.List.{[], ◌∷◌}
 use Prim.Native.Nat.{ℕ}
 use Rattle.men_field.specs.inner.Lines.{Added}
 use Rattle.men_field.proofs.Adding.{holds_none, holds_more}
-use borrow.Author.Rules.{rules}
-use Rattle.volume_contents.proofs.inner.row_of.Reads as reads
-use Rattle.volume_contents.proofs.inner.row_of.Lts as lts
-use Rattle.men_field.proofs.inner.push.Reads as push-reads
-use Rattle.volume_contents.proofs.inner.edition_byte.Reads as edition-byte-reads
 use Rattle.volume_contents.proofs.inner.row_of.Goals as goal
 
 -- src/inner.rt:54:1

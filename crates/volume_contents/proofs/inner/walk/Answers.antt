@@ -1,14 +1,9 @@
 use mathlib.Core.Path.{sym, ◌∙◌, ap}
 use Prim.Native.Nat.{◌-◌, ◌+◌}
 use native.Mathlib.Omega.{arith}
-use borrow.Author.Rules.{rules}
 use Rattle.volume_contents.specs.Contents.{row_tested}
 use Rattle.volume_contents.specs.declared.Entry.{Entry}
-use Rattle.volume_contents.proofs.Walking.{Sofar, walk_none, walk_more, walk_flaw, walk_done}
-use Rattle.volume_contents.proofs.inner.walk.Reads as reads
-use Rattle.volume_contents.proofs.inner.walk.Lts as lts
-use Rattle.volume_contents.proofs.inner.entry.Reads as entry-reads
-use Rattle.volume_contents.proofs.inner.tests.row.Reads as row_reads
+use Rattle.volume_contents.proofs.Walking.{walk_none, walk_more, walk_flaw, walk_done}
 use Rattle.volume_contents.proofs.inner.walk.Goals as goal
 
 -- src/inner.rt:111:5

@@ -1,6 +1,3 @@
-use borrow.Author.Rules.{rules}
-use Rattle.volume_lines.proofs.inner.note.Reads as reads
-use Rattle.volume_lines.proofs.inner.note.Lts as lts
 use Rattle.volume_lines.proofs.inner.note.Goals as goal
 
 -- src/inner.rt:15:1

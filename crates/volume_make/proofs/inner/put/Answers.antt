@@ -2,9 +2,6 @@ use mathlib.Core.Path.{◌≡◌}
 use native.Mathlib.Omega.{arith}
 use lib.ListN.{length}
 use borrow.Author.Rules.{rules}
-use Rattle.volume_make.proofs.inner.put.Reads as reads
-use Rattle.volume_make.proofs.inner.put.Lts as lts
-use Rattle.output.proofs.inner.copy.Reads as copy-reads
 use Rattle.volume_make.proofs.inner.put.Goals as goal
 
 -- src/inner.rt:18:5

@@ -1,15 +1,6 @@
-use mathlib.Core.Path.{◌≡◌, refl}
-use lib.ListN.{length}
 use Prim.Native.Nat.{◌-◌, ◌≤◌}
-use native.Mathlib.Omega.{arith}
-use borrow.Author.Rules.{rules}
 use Rattle.volume_make.specs.inner.Filling.{plain_row}
-use Rattle.volume_make.proofs.Filling.{filled_length}
-use Rattle.volume_make.proofs.Rows.{Rows, rows_none, rows_more, rows_done}
-use Rattle.volume_make.proofs.inner.put_rows.Reads as reads
-use Rattle.volume_make.proofs.inner.put_rows.Lts as lts
-use Rattle.volume_contents.proofs.inner.row_of.Reads as row-of-reads
-use Rattle.volume_make.proofs.inner.put.Reads as put_reads
+use Rattle.volume_make.proofs.Rows.{Rows}
 use Rattle.volume_make.proofs.inner.put_rows.Given as goal
 
 abbrev pub invariant-loop-i : goal.invariant-loop-i

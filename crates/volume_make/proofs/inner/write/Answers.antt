@@ -1,11 +1,5 @@
 use Rattle.volume_make.proofs.Bodies.{volume_in, sized_from}
 use borrow.Author.Rules.{rules}
-use Rattle.volume_make.proofs.inner.write.Reads as reads
-use Rattle.volume_make.proofs.inner.write.Lts as lts
-use Rattle.volume_contents.proofs.inner.head_of.Reads as head-of-reads
-use Rattle.volume_make.proofs.inner.put.Reads as put_reads
-use Rattle.volume_make.proofs.inner.put_bodies.Reads as put-bodies-reads
-use Rattle.volume_make.proofs.inner.put_rows.Reads as put-rows-reads
 use Rattle.volume_make.proofs.inner.write.Goals as goal
 
 -- src/inner.rt:56:5

@@ -2,12 +2,6 @@ use mathlib.Core.Path.{refl, sym, ◌∙◌, subst}
 use Rattle.volume_read.specs.declared.Read.{Read}
 use Rattle.volume_read.specs.Reading.{Reads, bodiless, unjudged}
 use Rattle.volume_read.proofs.Boards.{has_board, has_none}
-use borrow.Author.Rules.{rules}
-use Rattle.volume_read.proofs.inner.board.Reads as reads
-use Rattle.volume_read.proofs.inner.board.Lts as lts
-use Rattle.accept.proofs.inner.judge.Reads as judge-reads
-use Rattle.volume_read.proofs.inner.board_at.Reads as board-at-reads
-use Rattle.volume_read.proofs.inner.refused.Reads as refused-reads
 use Rattle.volume_read.proofs.inner.board.Goals as goal
 
 -- src/inner.rt:66:1

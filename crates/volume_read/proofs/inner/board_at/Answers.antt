@@ -7,12 +7,6 @@ use Rattle.volume_body.specs.Layout.{Answers}
 use Rattle.volume_contents.specs.declared.Entry.{Entry}
 use Rattle.volume_contents.specs.inner.Walks.{edition_of}
 use Rattle.volume_read.specs.Reading.{body_at}
-use borrow.Author.Rules.{rules}
-use Rattle.volume_read.proofs.inner.board_at.Reads as reads
-use Rattle.volume_read.proofs.inner.board_at.Lts as lts
-use Rattle.volume_body.proofs.inner.read_body.Reads as read-body-reads
-use Rattle.volume_contents.proofs.inner.edition_of.Reads as edition-of-reads
-use Rattle.volume_contents.proofs.inner.entry.Reads as entry-reads
 use Rattle.volume_read.proofs.inner.board_at.Goals as goal
 
 -- src/inner.rt:43:1

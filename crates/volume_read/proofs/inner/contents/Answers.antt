@@ -2,12 +2,6 @@ use mathlib.Core.Path.{sym, ◌∙◌}
 use native.Mathlib.Omega.{arith}
 use Rattle.volume_contents.specs.Contents.{head}
 use Rattle.volume_read.proofs.Tables.{table_sound, table_spoilt, rows_few}
-use borrow.Author.Rules.{rules}
-use Rattle.volume_read.proofs.inner.contents.Reads as reads
-use Rattle.volume_read.proofs.inner.contents.Lts as lts
-use Rattle.volume_contents.proofs.inner.problems.Reads as problems-reads
-use Rattle.volume_contents.proofs.inner.tests.head.Reads as head-reads
-use Rattle.volume_contents.proofs.inner.walk.Reads as walk-reads
 use Rattle.volume_read.proofs.inner.contents.Goals as goal
 
 -- src/inner.rt:35:52

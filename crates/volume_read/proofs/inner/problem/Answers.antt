@@ -6,13 +6,6 @@ use Rattle.volume_read.specs.declared.Found.{Found}
 use Rattle.volume_read.specs.declared.Judged.{Judged}
 use Rattle.volume_read.specs.Reading.{FindsIn, ReadsBy}
 use Rattle.volume_read.proofs.Tables.{sized, rising_rows, none_past, none_other}
-use borrow.Author.Rules.{rules}
-use Rattle.volume_read.proofs.inner.problem.Reads as reads
-use Rattle.volume_read.proofs.inner.problem.Lts as lts
-use Rattle.volume_contents.proofs.inner.entry.Reads as entry-reads
-use Rattle.volume_contents.proofs.inner.find.Reads as find-reads
-use Rattle.volume_read.proofs.inner.absent.Reads as absent-reads
-use Rattle.volume_read.proofs.inner.board.Reads as board-reads
 use Rattle.volume_read.proofs.inner.problem.Goals as goal
 
 -- src/inner.rt:104:9

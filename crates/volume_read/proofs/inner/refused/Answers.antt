@@ -1,8 +1,4 @@
 use Rattle.volume_read.specs.declared.Judged.TheVariants.{Refused}
-use borrow.Author.Rules.{rules}
-use Rattle.volume_read.proofs.inner.refused.Reads as reads
-use Rattle.volume_read.proofs.inner.refused.Lts as lts
-use Rattle.position.proofs.inner.nothing.Reads as nothing-reads
 use Rattle.volume_read.proofs.inner.refused.Goals as goal
 
 -- src/inner.rt:55:1

@@ -1,5 +1,4 @@
 -- `words::inner::is_castling` meets its contract.
-use borrow.Author.Rules.{rules}
 use Rattle.squares.specs.Tests.{◌and◌}
 use Rattle.words.specs.Words.{castles}
 use Rattle.words.proofs.inner.is_castling.Goals as goal

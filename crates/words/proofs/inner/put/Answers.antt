@@ -1,5 +1,4 @@
 -- `words::inner::put` meets its contract.
-use borrow.Author.Rules.{rules}
 use Rattle.output.proofs.Added.{used_adds}
 use Rattle.words.proofs.inner.put.Goals as goal
 

@@ -1,6 +1,5 @@
 -- `words::inner::put_becoming` meets its contract.
 use native.Mathlib.Omega.{arith}
-use borrow.Author.Rules.{rules}
 use Rattle.output.proofs.Adding.{adds_nothing}
 use Rattle.words.specs.Words.{bytes_in, bytes}
 use Rattle.words.proofs.Worded.{name_added}

@@ -1,6 +1,5 @@
 -- `words::inner::put_counted` meets its contract.
 use native.Mathlib.Omega.{arith}
-use borrow.Author.Rules.{rules}
 use Rattle.output.proofs.Adding.{adds_then}
 use Rattle.words.proofs.Lengths.{counted_short}
 use Rattle.words.proofs.inner.put_counted.Goals as goal

@@ -2,7 +2,6 @@
 use mathlib.Core.Path.{sym, ◌∙◌}
 use native.Mathlib.Omega.{arith}
 use borrow.Author.Tests.{lt-ltb, le-ltb}
-use borrow.Author.Rules.{rules}
 use Rattle.output.proofs.Adding.{adds_nothing}
 use Rattle.words.specs.Words.{bytes_in, bytes}
 use Rattle.words.proofs.Worded.{name_added}

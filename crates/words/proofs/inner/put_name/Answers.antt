@@ -1,5 +1,4 @@
 -- `words::inner::put_name` meets its contract.
-use borrow.Author.Rules.{rules}
 use Rattle.output.proofs.Adding.{adds_as}
 use Rattle.words.specs.Words.{bytes_in}
 use Rattle.words.proofs.Worded.{name_rest}

@@ -1,5 +1,4 @@
 -- `words::inner::put_number` meets its contract.
-use borrow.Author.Rules.{rules}
 use Rattle.rows.proofs.Decimals.{decimal_added}
 use Rattle.words.proofs.inner.put_number.Goals as goal
 

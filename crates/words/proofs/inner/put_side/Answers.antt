@@ -1,5 +1,4 @@
 -- `words::inner::put_side` meets its contract.
-use borrow.Author.Rules.{rules}
 use Rattle.words.specs.Words.{bytes_in}
 use Rattle.words.proofs.inner.put_side.Goals as goal
 

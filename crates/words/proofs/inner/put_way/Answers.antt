@@ -1,5 +1,4 @@
 -- `words::inner::put_way` meets its contract.
-use borrow.Author.Rules.{rules}
 use Rattle.words.specs.Words.{bytes_in}
 use Rattle.words.proofs.Worded.{way_added}
 use Rattle.words.proofs.inner.put_way.Goals as goal

@@ -1,6 +1,5 @@
 -- `words::inner::put_words` meets its contract.
 use native.Mathlib.Omega.{arith}
-use borrow.Author.Rules.{rules}
 use Rattle.words.proofs.Lengths.{subject_short, way_short, deed_short}
 use Rattle.words.proofs.Chained.{ends}
 use Rattle.words.proofs.Worded.{words_added}

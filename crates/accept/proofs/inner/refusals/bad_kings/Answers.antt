@@ -1,7 +1,6 @@
 -- `accept::inner::refusals::bad_kings` meets its contract.
 use Rattle.squares.specs.Tests.{◌or◌}
 use Rattle.accept.proofs.Judged.{not_both}
-use borrow.Author.Rules.{rules}
 use Rattle.accept.proofs.inner.refusals.bad_kings.Goals as goal
 
 pub returns : goal.returns

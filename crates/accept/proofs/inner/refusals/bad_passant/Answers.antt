@@ -1,5 +1,4 @@
 -- `accept::inner::refusals::bad_passant` meets its contract.
-use borrow.Author.Rules.{rules}
 use Rattle.accept.proofs.inner.refusals.bad_passant.Goals as goal
 
 pub returns-in-Some : goal.returns-in-Some

@@ -3,7 +3,6 @@ use mathlib.Core.Path.{refl}
 use Rattle.squares.specs.Tests.{◌and◌}
 use Rattle.squares.specs.Squares.{has, all_to}
 use Rattle.accept.proofs.Judged.{pawns_is}
-use borrow.Author.Rules.{rules}
 use Rattle.accept.proofs.inner.refusals.bad_pawns.Goals as goal
 
 pub returns : goal.returns

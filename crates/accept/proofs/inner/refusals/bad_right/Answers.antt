@@ -1,5 +1,4 @@
 -- `accept::inner::refusals::bad_right` meets its contract.
-use borrow.Author.Rules.{rules}
 use Rattle.squares.specs.Tests.{◌and◌, ◌or◌}
 use Rattle.accept.proofs.inner.refusals.bad_right.Goals as goal
 

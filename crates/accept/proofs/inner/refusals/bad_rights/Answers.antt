@@ -2,7 +2,6 @@
 use Rattle.squares.specs.Tests.{◌or◌}
 use Rattle.laws.specs.Boards.{men_in, pos_at}
 use Rattle.accept.proofs.Judged.{rights_is}
-use borrow.Author.Rules.{rules}
 use Rattle.accept.proofs.inner.refusals.bad_rights.Goals as goal
 
 pub returns : goal.returns

@@ -3,7 +3,6 @@ use native.Mathlib.Omega.{arith}
 use Rattle.squares.specs.Tests.{◌and◌}
 use Rattle.laws.specs.Boards.{men_in}
 use Rattle.accept.proofs.Judged.{square_is, square_above}
-use borrow.Author.Rules.{rules}
 use Rattle.accept.proofs.inner.refusals.bad_square.Goals as goal
 
 pub returns-then-sq-gt63 : goal.returns-then-sq-gt63

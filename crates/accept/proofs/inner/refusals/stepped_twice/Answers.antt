@@ -3,7 +3,6 @@ use mathlib.Core.Path.{◌∙◌, sym}
 use Rattle.squares.specs.Tests.{◌and◌}
 use Rattle.laws.specs.Boards.{men_in}
 use Rattle.accept.proofs.Judged.{is_stepped, not_stepped}
-use borrow.Author.Rules.{rules}
 use Rattle.accept.proofs.inner.refusals.stepped_twice.Goals as goal
 
 pub returns-then-rank_for-ne3 : goal.returns-then-rank_for-ne3

@@ -1,6 +1,5 @@
 -- `board::inner::moving::boarded` meets its contract.
 use Rattle.board.specs.inner.Gates.{boarded_of}
-use borrow.Author.Rules.{rules}
 use Rattle.board.proofs.inner.moving.boarded.Goals as goal
 
 pub returns : goal.returns

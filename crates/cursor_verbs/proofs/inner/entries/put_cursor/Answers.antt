@@ -1,8 +1,6 @@
 -- `cursor_verbs::inner::entries::put_cursor` meets its contract.
-use Prim.Native.Nat.{◌-◌, ◌≤◌}
+use Prim.Native.Nat.{◌-◌}
 use native.Mathlib.Omega.{arith}
-use borrow.Author.Rules.{rules}
-use Rattle.puts.specs.inner.Growing.{Grows}
 use Rattle.cursor_verbs.proofs.inner.entries.put_cursor.Goals as goal
 
 pub loop-i-init : goal.loop-i-init

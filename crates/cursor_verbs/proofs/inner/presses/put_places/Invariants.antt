@@ -1,6 +1,4 @@
 use Prim.Native.Nat.{◌-◌, ◌≤◌}
-use native.Mathlib.Omega.{arith}
-use borrow.Author.Rules.{rules}
 use Rattle.puts.specs.inner.Growing.{Grows}
 use Rattle.cursor_verbs.proofs.inner.presses.put_places.Given as goal
 

@@ -1,7 +1,5 @@
 -- `cursor_verbs::inner::presses::read_entries` meets its contract.
-use Prim.Native.Nat.{◌-◌, ◌≤◌}
-use native.Mathlib.Omega.{arith}
-use borrow.Author.Rules.{rules}
+use Prim.Native.Nat.{◌-◌}
 use Rattle.cursor_verbs.proofs.inner.presses.read_entries.Goals as goal
 
 pub place_at-place-requires : goal.place_at-place-requires

@@ -1,7 +1,5 @@
 -- `cursor_verbs::inner::sequences::put_presses` meets its contract.
 use native.Mathlib.Omega.{arith}
-use borrow.Author.Rules.{rules}
-use Rattle.puts.specs.inner.Growing.{Grows}
 use Rattle.cursor_verbs.proofs.inner.sequences.put_presses.Goals as goal
 
 pub loop-turns-init : goal.loop-turns-init

@@ -1,5 +1,3 @@
-use native.Mathlib.Omega.{arith}
-use borrow.Author.Rules.{rules}
 use Rattle.puts.specs.inner.Growing.{Grows}
 use Rattle.cursor_verbs.proofs.inner.sequences.put_presses.Given as goal
 

@@ -1,9 +1,6 @@
 -- `edition_verbs::inner::lists::put_members` meets its contract.
 use Prim.Native.Nat.{◌-◌}
 use native.Mathlib.Omega.{arith}
-use lib.ListN.{length}
-use borrow.Author.Rules.{rules}
-use Rattle.puts.specs.inner.Growing.{Grows}
 use Rattle.edition_verbs.proofs.inner.lists.put_members.Goals as goal
 
 pub loop-i-init : goal.loop-i-init

@@ -1,7 +1,5 @@
 use Prim.Native.Nat.{◌-◌}
-use native.Mathlib.Omega.{arith}
 use lib.ListN.{length}
-use borrow.Author.Rules.{rules}
 use Rattle.puts.specs.inner.Growing.{Grows}
 use Rattle.edition_verbs.proofs.inner.lists.put_members.Given as goal
 

@@ -1,5 +1,4 @@
 -- `laws::inner::castling::has_right` meets its contract.
-use borrow.Author.Rules.{rules}
 use Rattle.laws.proofs.inner.castling.has_right.Goals as goal
 
 pub returns-in-White : goal.returns-in-White

@@ -1,5 +1,4 @@
 -- `laws::inner::castling::king_to` meets its contract.
-use borrow.Author.Rules.{rules}
 use Rattle.laws.proofs.inner.castling.king_to.Goals as goal
 
 pub returns-in-Short : goal.returns-in-Short

@@ -1,5 +1,4 @@
 -- `laws::inner::castling::rook_home` meets its contract.
-use borrow.Author.Rules.{rules}
 use Rattle.laws.proofs.inner.castling.rook_home.Goals as goal
 
 pub returns-in-Short : goal.returns-in-Short

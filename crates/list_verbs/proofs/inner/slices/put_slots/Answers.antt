@@ -1,9 +1,6 @@
 -- `list_verbs::inner::slices::put_slots` meets its contract.
 use Prim.Native.Nat.{◌-◌}
 use native.Mathlib.Omega.{arith}
-use lib.ListN.{length}
-use borrow.Author.Rules.{rules}
-use Rattle.puts.specs.inner.Growing.{Grows}
 use Rattle.list_verbs.proofs.inner.slices.put_slots.Goals as goal
 
 pub loop-i-init : goal.loop-i-init

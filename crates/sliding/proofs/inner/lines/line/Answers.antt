@@ -1,5 +1,4 @@
 -- `sliding::inner::lines::line` meets its contract.
-use Rattle.std.proofs.Common.{rules}
 use Rattle.sliding.proofs.Diagonals.{line_is, line_none}
 use Rattle.sliding.proofs.inner.lines.line.Goals as goal
 

@@ -1,5 +1,5 @@
 -- `sliding::inner::lines::on_line` meets its contract.
-use Rattle.std.proofs.Common.{refl, rules}
+use Rattle.std.proofs.Common.{refl}
 use Rattle.squares.specs.Tests.{◌and◌, ◌or◌}
 use Rattle.geometry.specs.Lines.{straight, diagonal, same_rank, same_file}
 use Rattle.geometry.specs.Steps.{slide_line}

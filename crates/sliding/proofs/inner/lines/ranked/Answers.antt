@@ -1,5 +1,4 @@
 -- `sliding::inner::lines::ranked` meets its contract.
-use Rattle.std.proofs.Common.{rules}
 use Rattle.sliding.proofs.Diagonals.{ranked_down, ranked_up, ranked_off}
 use Rattle.sliding.proofs.inner.lines.ranked.Goals as goal
 

@@ -1,6 +1,5 @@
 -- `solution::inner::marks::is_marked` meets its contract.
 use Rattle.rows.specs.inner.Marked.{marked}
-use borrow.Author.Rules.{rules}
 use Rattle.solution.proofs.inner.marks.is_marked.Goals as goal
 
 pub returns : goal.returns

@@ -1,7 +1,6 @@
 -- `solution::inner::marks::mark` meets its contract.
 use native.Mathlib.Omega.{arith}
 use Rattle.rows.proofs.Marking.{mark_is}
-use borrow.Author.Rules.{rules}
 use Rattle.solution.proofs.inner.marks.mark.Goals as goal
 
 pub returns : goal.returns

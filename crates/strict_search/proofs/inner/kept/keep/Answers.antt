@@ -1,5 +1,4 @@
 -- `strict_search::inner::kept::keep` meets its contract.
-use borrow.Author.Rules.{rules}
 use Rattle.strict_search.proofs.Keeping.{keeps}
 use Rattle.strict_search.proofs.inner.kept.keep.Goals as goal
 

@@ -1,8 +1,7 @@
 -- `strict_search::inner::places::first_in` meets its contract.
-use Prim.Native.Nat.{◌-◌, ◌≤◌}
+use Prim.Native.Nat.{◌-◌}
 use native.Mathlib.Omega.{arith}
-use borrow.Author.Rules.{rules}
-use Rattle.strict_search.specs.inner.Searching.{holds_in, Skips}
+use Rattle.strict_search.specs.inner.Searching.{holds_in}
 use Rattle.strict_search.proofs.Skipping.{skips_none}
 use Rattle.strict_search.proofs.Jumping.{no_targets, found, passed, at_end}
 use Rattle.strict_search.proofs.inner.places.first_in.Goals as goal

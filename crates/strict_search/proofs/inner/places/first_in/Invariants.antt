@@ -1,9 +1,5 @@
 use Prim.Native.Nat.{◌-◌, ◌≤◌}
-use native.Mathlib.Omega.{arith}
-use borrow.Author.Rules.{rules}
 use Rattle.strict_search.specs.inner.Searching.{holds_in, Skips}
-use Rattle.strict_search.proofs.Skipping.{skips_none}
-use Rattle.strict_search.proofs.Jumping.{no_targets, found, passed, at_end}
 use Rattle.strict_search.proofs.inner.places.first_in.Given as goal
 
 abbrev pub invariant-loop-j : goal.invariant-loop-j

@@ -1,5 +1,4 @@
 -- `strict_search::inner::places::jump` meets its contract.
-use borrow.Author.Rules.{rules}
 use Rattle.strict_search.proofs.Jumping.{jumped, ended}
 use Rattle.strict_search.proofs.inner.places.jump.Goals as goal
 

@@ -3,7 +3,6 @@ use native.Mathlib.Omega.{arith}
 use lib.Bits.{bit_and}
 use Rattle.strict_search.proofs.Sizes.{size_le, product_le, size_is}
 use Rattle.strict_search.proofs.Jumping.{count_none}
-use borrow.Author.Rules.{rules}
 use Rattle.strict_search.proofs.inner.places.size_of.Goals as goal
 
 pub returns-then-all-eq0 : goal.returns-then-all-eq0

@@ -1,5 +1,4 @@
 -- `strict_search::inner::places::twelve` meets its contract.
-use borrow.Author.Rules.{rules}
 use Rattle.strict_search.proofs.Twelve.{men_lt, twelve_is}
 use Rattle.strict_search.proofs.inner.places.twelve.Goals as goal
 

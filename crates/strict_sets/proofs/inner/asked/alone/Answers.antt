@@ -2,7 +2,6 @@
 use mathlib.Core.Path.{◌∙◌}
 use Rattle.laws.specs.Boards.{pos_at}
 use Rattle.strict_sets.proofs.Asked.{alone_set}
-use borrow.Author.Rules.{rules}
 use Rattle.strict_sets.proofs.inner.asked.alone.Goals as goal
 
 pub is_strict-requires : goal.is_strict-requires

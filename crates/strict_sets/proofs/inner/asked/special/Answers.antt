@@ -10,7 +10,6 @@ use Rattle.moves.proofs.Steps.{man_is}
 use Rattle.laws.specs.declared.Piece.TheVariants.{Pawn, King}
 use Rattle.position.proofs.Editing.{kind_on}
 use Rattle.strict_sets.proofs.Asked.{pawn_special, king_special, none_special}
-use borrow.Author.Rules.{rules}
 use Rattle.strict_sets.proofs.inner.asked.special.Goals as goal
 
 pub special_pawn-requires : goal.special_pawn-requires

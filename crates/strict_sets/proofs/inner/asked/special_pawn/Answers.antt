@@ -3,7 +3,6 @@ use mathlib.Core.Path.{◌∙◌, sym, ap}
 use native.Mathlib.Omega.{arith}
 use Rattle.strict_sets.proofs.Asked.{on_sixth, on_fourth, elsewhere}
 use Rattle.geometry.specs.Colors.{behind}
-use borrow.Author.Rules.{rules}
 use Rattle.strict_sets.proofs.inner.asked.special_pawn.Goals as goal
 
 pub get_pawn_attacks-requires : goal.get_pawn_attacks-requires

@@ -1,9 +1,8 @@
 -- `strict_sets::inner::asked::tested` meets its contract.
-use borrow.Author.Rules.{rules}
 use native.Mathlib.Omega.{arith}
 use Rattle.laws.specs.Boards.{pos_at}
 use Rattle.strict_sets.specs.inner.Parts.{strict_alone}
-use Rattle.squares.proofs.Unions.{Uniting, unite_start, unite_turn, unite_less, unite_end}
+use Rattle.squares.proofs.Unions.{unite_start, unite_turn, unite_less, unite_end}
 use Rattle.strict_sets.proofs.inner.asked.tested.Goals as goal
 
 pub loop-left-init : goal.loop-left-init

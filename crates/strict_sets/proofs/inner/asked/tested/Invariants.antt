@@ -1,8 +1,6 @@
-use borrow.Author.Rules.{rules}
-use native.Mathlib.Omega.{arith}
 use Rattle.laws.specs.Boards.{pos_at}
 use Rattle.strict_sets.specs.inner.Parts.{strict_alone}
-use Rattle.squares.proofs.Unions.{Uniting, unite_start, unite_turn, unite_less, unite_end}
+use Rattle.squares.proofs.Unions.{Uniting}
 use Rattle.strict_sets.proofs.inner.asked.tested.Given as goal
 
 abbrev pub invariant-loop-left : goal.invariant-loop-left

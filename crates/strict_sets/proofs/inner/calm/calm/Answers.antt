@@ -5,7 +5,6 @@ use Rattle.laws.specs.Men.{man_of}
 use Rattle.geometry.specs.Colors.{opp}
 use Rattle.strict_sets.proofs.Calming.{calm_none}
 use Rattle.strict_sets.proofs.Placing.{left_clean, calm_told}
-use borrow.Author.Rules.{rules}
 use Rattle.strict_sets.proofs.inner.calm.calm.Goals as goal
 
 pub comes_from-from-requires : goal.comes_from-from-requires

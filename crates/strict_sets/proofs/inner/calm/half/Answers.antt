@@ -1,12 +1,10 @@
 -- `strict_sets::inner::calm::half` meets its contract.
-use Rattle.squares.proofs.Testing.{denied, granted}
 use mathlib.Core.Path.{◌∙◌, sym}
 use Rattle.laws.specs.Boards.{men_in}
 use Rattle.laws.specs.Men.{man_of}
 use Rattle.geometry.specs.Colors.{opp}
 use mathlib.Core.Bool.{true, false}
 use Rattle.strict_sets.proofs.Calming.{half_few, half_many}
-use borrow.Author.Rules.{rules}
 use Rattle.strict_sets.proofs.inner.calm.half.Goals as goal
 
 pub few_with-requires : goal.few_with-requires

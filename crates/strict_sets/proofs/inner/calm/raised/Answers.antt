@@ -1,5 +1,4 @@
 -- `strict_sets::inner::calm::raised` meets its contract.
-use Rattle.squares.proofs.Testing.{denied, granted}
 use mathlib.Core.Path.{◌∙◌, sym}
 use mathlib.Core.Bool.{true, false}
 use Rattle.laws.specs.Boards.{men_in}
@@ -7,7 +6,6 @@ use Rattle.laws.specs.Men.{man_of}
 use Rattle.geometry.specs.Colors.{opp}
 use Rattle.strict_sets.proofs.Calming.{rises, rises_not}
 use Rattle.strict_sets.proofs.Placing.{pawn_comes, pawn_half}
-use borrow.Author.Rules.{rules}
 use Rattle.strict_sets.proofs.inner.calm.raised.Goals as goal
 
 pub may_rise-requires : goal.may_rise-requires

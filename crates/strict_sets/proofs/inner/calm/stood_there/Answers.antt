@@ -10,7 +10,6 @@ use Rattle.position.specs.inner.Edits.{man_with}
 use Rattle.geometry.specs.Colors.{opp}
 use Rattle.laws.proofs.Mans.{by_number, opp_opp}
 use Rattle.strict_sets.specs.inner.Parts.{stood}
-use borrow.Author.Rules.{rules}
 use Rattle.strict_sets.proofs.inner.calm.stood_there.Goals as goal
 
 pub returns-then-taking : goal.returns-then-taking

@@ -2,7 +2,6 @@
 use Rattle.laws.specs.Men.{man_of}
 use Rattle.laws.specs.Boards.{men_in}
 use Rattle.strict_sets.proofs.Coming.{comes_set}
-use borrow.Author.Rules.{rules}
 use Rattle.strict_sets.proofs.inner.coming.comes_from.Goals as goal
 
 pub steps_from-requires : goal.steps_from-requires

@@ -3,7 +3,6 @@ use mathlib.Core.Path.{◌∙◌, ap}
 use Prim.Native.Nat.{ℕ}
 use lib.Bits.{bit_and}
 use Rattle.strict_sets.proofs.Coming.{pawn_set}
-use borrow.Author.Rules.{rules}
 use Rattle.strict_sets.proofs.inner.coming.pawn_from.Goals as goal
 
 pub get_pawn_attacks-beside-requires : goal.get_pawn_attacks-beside-requires

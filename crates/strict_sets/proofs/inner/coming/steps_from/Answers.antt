@@ -11,7 +11,6 @@ use Rattle.moves.proofs.Steps.{man_is}
 use Rattle.strict_sets.proofs.Coming.{pawn_steps, other_steps}
 use Rattle.laws.specs.declared.Piece.TheVariants.{Pawn}
 use Rattle.position.proofs.Editing.{kind_on}
-use borrow.Author.Rules.{rules}
 use Rattle.strict_sets.proofs.inner.coming.steps_from.Goals as goal
 
 pub is_pawn-requires : goal.is_pawn-requires

@@ -1,5 +1,4 @@
 -- `unmake::inner::back::before` meets its contract.
-use borrow.Author.Rules.{rules}
 use Rattle.unmake.specs.inner.Parts.{before_for}
 use Rattle.position.proofs.Composing.{once_clean, twice_clean, thrice_clean, four}
 use Rattle.unmake.proofs.Backs.{edits}

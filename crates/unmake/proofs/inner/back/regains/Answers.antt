@@ -1,6 +1,5 @@
 -- `unmake::inner::back::regains` meets its contract.
 use Rattle.squares.specs.Tests.{◌and◌, ◌or◌}
-use borrow.Author.Rules.{rules}
 use Rattle.unmake.proofs.inner.back.regains.Goals as goal
 
 pub returns-in-Plain : goal.returns-in-Plain

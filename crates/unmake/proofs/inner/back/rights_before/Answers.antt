@@ -1,5 +1,4 @@
 -- `unmake::inner::back::rights_before` meets its contract.
-use borrow.Author.Rules.{rules}
 use Rattle.unmake.proofs.inner.back.rights_before.Goals as goal
 
 pub returns : goal.returns

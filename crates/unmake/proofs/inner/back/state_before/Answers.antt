@@ -1,5 +1,4 @@
 -- `unmake::inner::back::state_before` meets its contract.
-use borrow.Author.Rules.{rules}
 use Rattle.unmake.proofs.inner.back.state_before.Goals as goal
 
 pub behind-requires : goal.behind-requires

@@ -2,7 +2,6 @@
 use mathlib.Core.Path.{refl}
 use Rattle.laws.specs.Men.{empty}
 use Rattle.position.proofs.Composing.{with_own, puts}
-use borrow.Author.Rules.{rules}
 use Rattle.unmake.proofs.inner.back.uncleared.Goals as goal
 
 pub returns-in-Plain : goal.returns-in-Plain

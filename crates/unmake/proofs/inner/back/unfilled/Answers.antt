@@ -4,7 +4,6 @@ use Rattle.geometry.specs.declared.Color.{Color}
 use Rattle.laws.specs.declared.Piece.TheVariants.{Pawn}
 use Rattle.laws.specs.Men.{man, man_number}
 use Rattle.position.proofs.Composing.{with_own, puts}
-use borrow.Author.Rules.{rules}
 use Rattle.unmake.proofs.inner.back.unfilled.Goals as goal
 
 pub behind-q-requires : goal.behind-q-requires

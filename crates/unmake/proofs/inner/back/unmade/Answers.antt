@@ -1,7 +1,6 @@
 -- `unmake::inner::back::unmade` meets its contract.
 use mathlib.Core.Path.{refl}
 use Rattle.unmake.proofs.Backs.{unmade_is}
-use borrow.Author.Rules.{rules}
 use Rattle.unmake.proofs.inner.back.unmade.Goals as goal
 
 pub returns : goal.returns

@@ -1,11 +1,5 @@
 use Rattle.squares.specs.Tests.{◌and◌}
 use Rattle.volume_contents.specs.Contents.{head_tested}
-use borrow.Author.Rules.{rules}
-use Rattle.volume_contents.proofs.inner.tests.head.Reads as reads
-use Rattle.volume_contents.proofs.inner.tests.head.Lts as lts
-use Rattle.volume_contents.proofs.inner.byte.Reads as byte-Reads
-use Rattle.volume_contents.proofs.inner.tests.unless.Reads as unless-reads
-use Rattle.volume_contents.proofs.inner.two.Reads as two-reads
 use Rattle.volume_contents.proofs.inner.tests.head.Goals as goal
 
 -- src/inner/tests.rt:20:1

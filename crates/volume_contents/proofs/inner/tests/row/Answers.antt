@@ -1,9 +1,5 @@
 use Rattle.squares.specs.Tests.{◌or◌}
 use Rattle.volume_contents.proofs.Chain.{chain}
-use borrow.Author.Rules.{rules}
-use Rattle.volume_contents.proofs.inner.tests.row.Reads as reads
-use Rattle.volume_contents.proofs.inner.tests.row.Lts as lts
-use Rattle.volume_contents.proofs.inner.tests.unless.Reads as unless-reads
 use Rattle.volume_contents.proofs.inner.tests.row.Goals as goal
 
 -- src/inner/tests.rt:32:1

@@ -1,5 +1,3 @@
-use Rattle.volume_contents.proofs.inner.tests.unless.Reads as reads
-use Rattle.volume_contents.proofs.inner.tests.unless.Lts as lts
 use Rattle.volume_contents.proofs.inner.tests.unless.Goals as goal
 
 -- src/inner/tests.rt:14:9

@@ -1,9 +1,6 @@
 -- `volume_verb::inner::bytes::put` meets its contract.
 use Prim.Native.Nat.{◌-◌}
 use native.Mathlib.Omega.{arith}
-use lib.ListN.{length}
-use borrow.Author.Rules.{rules}
-use Rattle.puts.specs.inner.Growing.{Grows}
 use Rattle.volume_verb.proofs.inner.bytes.put.Goals as goal
 
 pub loop-i-init : goal.loop-i-init

@@ -1,7 +1,5 @@
 use Prim.Native.Nat.{◌-◌}
-use native.Mathlib.Omega.{arith}
 use lib.ListN.{length}
-use borrow.Author.Rules.{rules}
 use Rattle.puts.specs.inner.Growing.{Grows}
 use Rattle.volume_verb.proofs.inner.bytes.put.Given as goal
 

@@ -2,7 +2,6 @@
 use mathlib.Core.Path.{sym}
 use native.Mathlib.Omega.{arith}
 use lib.Seq.{length-take-le}
-use borrow.Author.Rules.{rules}
 use Rattle.volume_verb.proofs.inner.bytes.put_front.Goals as goal
 
 pub slice_bounds-put-end-2 : goal.slice_bounds-put-end-2

@@ -1,6 +1,4 @@
 use Prim.Native.Nat.{◌-◌, ◌≤◌}
-use native.Mathlib.Omega.{arith}
-use borrow.Author.Rules.{rules}
 use Rattle.volume_verb.proofs.inner.bytes.read.Given as goal
 
 abbrev pub invariant-loop-n : goal.invariant-loop-n
