@@ -1,10 +1,8 @@
 -- `rows::inner::count_strict_by` meets its contract.
-use mathlib.Core.Path.{◌≡◌, refl, ◌∙◌, ap}
-use Prim.Native.Nat.{◌-◌, ◌*◌, ◌≤◌}
+use mathlib.Core.Path.{refl, ◌∙◌, ap}
 use native.Mathlib.Omega.{arith}
-use lib.ListN.{length, take}
+use lib.ListN.{length}
 use lib.Seq.{take_all}
-use borrow.Author.Rules.{rules}
 use Rattle.squares.specs.Members.{concat}
 use Rattle.rows.specs.inner.Marked.{strict_by}
 use Rattle.rows.proofs.Adding.{count_next}

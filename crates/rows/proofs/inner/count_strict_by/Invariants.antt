@@ -1,12 +1,8 @@
-use mathlib.Core.Path.{◌≡◌, refl, ◌∙◌, ap}
+use mathlib.Core.Path.{◌≡◌}
 use Prim.Native.Nat.{◌-◌, ◌*◌, ◌≤◌}
-use native.Mathlib.Omega.{arith}
 use lib.ListN.{length, take}
-use lib.Seq.{take_all}
-use borrow.Author.Rules.{rules}
 use Rattle.squares.specs.Members.{concat}
 use Rattle.rows.specs.inner.Marked.{strict_by}
-use Rattle.rows.proofs.Adding.{count_next}
 use Rattle.rows.proofs.inner.count_strict_by.Given as goal
 
 abbrev pub invariant-loop-i : goal.invariant-loop-i

@@ -1,12 +1,9 @@
 -- `rows::inner::put_listed_by` meets its contract.
-use mathlib.Core.Path.{◌≡◌, refl, ap}
-use Prim.Native.Nat.{◌-◌, ◌≤◌}
+use mathlib.Core.Path.{refl, ap}
 use native.Mathlib.Omega.{arith}
-use lib.ListN.{length, take}
 use lib.Seq.{take_all}
 use borrow.Author.Rules.{rules}
 use Rattle.squares.specs.Members.{concat}
-use Rattle.output.specs.Appending.{Adds}
 use Rattle.rows.specs.inner.Marked.{listed_by}
 use Rattle.output.proofs.Adding.{adds_as, adds_nothing}
 use Rattle.rows.proofs.Adding.{adds_next}
