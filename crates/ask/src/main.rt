@@ -1,6 +1,4 @@
 // Answers each line of standard input, a verb and its fields between tabs, with one line.
-#![tactic(auto)]
-
 ghost use Rattle.std.specs.Prelude.{◌≤◌};
 ghost use Rattle.geometry.specs.Lines.{IsBetween};
 

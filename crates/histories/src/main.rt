@@ -1,6 +1,4 @@
 // Answers each line of standard input, a text of edition A, a space and a depth, by the first history of so many plies.
-#![tactic(auto)]
-
 ghost use Rattle.std.specs.Prelude.{◌≤◌};
 ghost use Rattle.geometry.specs.Lines.{IsBetween};
 ghost use Rattle.io.specs.Counts.{IsPrefixLen};
