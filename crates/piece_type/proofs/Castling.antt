@@ -1,4 +1,5 @@
 -- The two tests of un-castling, over whatever they ask of squares: the Rust's, of the squares beside the king, and ours, of the squares by name.
+use Rattle.std.specs.Prelude.{◌==◌, if◌then◌else◌}
 use mathlib.Core.Path.{◌≡◌, refl, sym, ap, ap₂, ◌∙◌, subst}
 use mathlib.Core.Bool.{Bool, true, false, cond}
 use mathlib.Core.List.{List, [], ◌∷◌}
@@ -18,7 +19,7 @@ use Rattle.retraction_list.specs.declared.UnCaptureKind.TheVariants.{Forbidden}
 use Rattle.retraction_list.specs.Entries.{entry_of}
 use Rattle.squares.proofs.Testing.{agree, agree_eq}
 use Rattle.laws.proofs.Cases.{by_cases}
-use Rattle.piece_type.specs.Bitboards.{◌==◌, if◌then◌else◌, from_square}
+use Rattle.piece_type.specs.Bitboards.{from_square}
 use Rattle.piece_type.specs.Squares.{to_my_backrank, uleft, uright}
 
 -- our rook stands on a square, nothing does, it is not attacked, a rook there gives no check, no other man checks than one there

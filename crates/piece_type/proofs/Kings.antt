@@ -1,4 +1,5 @@
 -- The king's `legals` adds what `kingOf` lists.
+use Rattle.std.specs.Prelude.{◌==◌, if◌then◌else◌}
 use mathlib.Core.Path.{◌≡◌, refl, ap, ap₂, ◌∙◌}
 use mathlib.Core.Bool.{Bool, false, not, cond}
 use mathlib.Core.List.{[], ◌∷◌, ◌++◌}
@@ -27,7 +28,7 @@ use Rattle.view.specs.Views.{within, view_of}
 use Rattle.kings.specs.Kings.{attacked_of, steps_of, may_of, stepped_of, safe_of, castled_of, short_of, long_of, uncastled_of, king_of}
 use Rattle.squares.proofs.Members.{first_lt}
 use Rattle.laws.proofs.Mans.{opp_opp}
-use Rattle.piece_type.specs.Bitboards.{◌&◌, !◌, ◌==◌, ◌!=◌, if◌then◌else◌, EMPTY, from_square}
+use Rattle.piece_type.specs.Bitboards.{◌&◌, !◌, ◌!=◌, EMPTY, from_square}
 use Rattle.piece_type.specs.Squares.{to_my_backrank, uleft, uright}
 use Rattle.piece_type.specs.Boards.{pieces_of, color_combined, castle_rights, not_no_rights, king_square, is_attacked}
 use Rattle.piece_type.specs.Statements.{◌>>◌, push, when}

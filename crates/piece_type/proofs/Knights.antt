@@ -1,4 +1,5 @@
 -- The knight's `legals` adds what `officerOf` lists.
+use Rattle.std.specs.Prelude.{◌==◌}
 use mathlib.Core.Path.{refl, sym, ap, ap₂}
 use mathlib.Core.Bool.{true, false}
 use Prim.Native.Nat.{ℕ}
@@ -15,7 +16,7 @@ use Rattle.view.specs.declared.View.{View}
 use Rattle.view.specs.Views.{within, view_of}
 use Rattle.officers.specs.Officers.{moves_of, kind_men, steps_of, quiet_of, free_of, calm_of, alone_of, ray_of, onto_of, both_at, both_of, officer_of}
 use Rattle.squares.proofs.Testing.{and_false}
-use Rattle.piece_type.specs.Bitboards.{◌&◌, !◌, ◌==◌, ◌!=◌, EMPTY}
+use Rattle.piece_type.specs.Bitboards.{◌&◌, !◌, ◌!=◌, EMPTY}
 use Rattle.piece_type.specs.Statements.{when, for}
 use Rattle.piece_type.specs.PieceTypes.{CheckType, NotInCheck, InSimpleCheck, InDoubleCheck, nb_checkers}
 use Rattle.piece_type.specs.Knights.{legals}

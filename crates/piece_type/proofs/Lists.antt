@@ -1,4 +1,5 @@
 -- The Rust's lists are ours: whole, on every board that its types can hold.
+use Rattle.std.specs.Prelude.{◌==◌, if◌then◌else◌}
 use mathlib.Core.Path.{◌≡◌, refl, sym, ap, ap₂, ◌∙◌, subst}
 use mathlib.Core.Bool.{Bool, true, false, cond}
 use mathlib.Core.List.{List, [], ◌∷◌, ◌++◌}
@@ -30,7 +31,7 @@ use Rattle.squares.proofs.Comprehension.{empty, up_to_lt}
 use Rattle.squares.proofs.Counting.{count_none, count_empty}
 use Rattle.squares.proofs.Digits.{has_zero}
 use Rattle.laws.proofs.Facts.{accepts, names}
-use Rattle.piece_type.specs.Bitboards.{◌&◌, ◌==◌, if◌then◌else◌, EMPTY}
+use Rattle.piece_type.specs.Bitboards.{◌&◌, EMPTY}
 use Rattle.piece_type.specs.Squares.{to_second_rank}
 use Rattle.piece_type.specs.Statements.{Run, ◌>>◌, push, skip, from_new}
 use Rattle.piece_type.specs.PieceTypes.{CheckType, NotInCheck, InSimpleCheck, InDoubleCheck, nb_checkers, BishopType, RookType, QueenType}

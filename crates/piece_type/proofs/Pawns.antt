@@ -1,4 +1,5 @@
 -- The pawn's `legals` adds what `pawnOf` lists.
+use Rattle.std.specs.Prelude.{◌==◌, if◌then◌else◌}
 use mathlib.Core.Path.{◌≡◌, refl, ap, ap₂, ◌∙◌}
 use mathlib.Core.Bool.{Bool, true, false, not, cond}
 use mathlib.Core.List.{[]}
@@ -23,7 +24,7 @@ use Rattle.view.specs.Views.{within, view_of}
 use Rattle.un_en_passant.specs.UnEnPassants.{pawns_of, check_mask, vacant_of, beside_plain, beside_reborn, under_one, rays_of, one_of_two, two_others, under_two, under_of, passant_at, passant_of, un_en_passants_of}
 use Rattle.pawns.specs.Pawns.{first_rank, candidate_retractors, other_ray_of, allows_of, capturers_of, doubled_of, crossed_of, home_of, unpush_of, uncapture_of, promoted_of, from_of, steps_of, pawn_of}
 use Rattle.squares.proofs.Comprehension.{up_to_lt}
-use Rattle.piece_type.specs.Bitboards.{◌&◌, !◌, ◌¦◌, ◌==◌, ◌!=◌, if◌then◌else◌, EMPTY, from_square, to_square}
+use Rattle.piece_type.specs.Bitboards.{◌&◌, !◌, ◌¦◌, ◌!=◌, EMPTY, from_square, to_square}
 use Rattle.piece_type.specs.Squares.{get_pawn_attacks}
 use Rattle.piece_type.specs.Statements.{◌>>◌, skip, for}
 use Rattle.piece_type.specs.PieceTypes.{CheckType, NotInCheck, InSimpleCheck, InDoubleCheck, nb_checkers}

@@ -1,4 +1,5 @@
 -- The blanket `legals` adds what `officerOf` lists, for bishops, rooks and queens.
+use Rattle.std.specs.Prelude.{◌==◌}
 use mathlib.Core.Path.{◌≡◌, refl, sym, ap, ap₂, ◌∙◌}
 use mathlib.Core.Bool.{Bool, true, false, not, cond}
 use mathlib.Core.List.{[]}
@@ -23,7 +24,7 @@ use Rattle.view.specs.Views.{within, view_of}
 use Rattle.officers.specs.Officers.{moves_of, kind_men, steps_of, quiet_of, free_of, each_of, calm_of, alone_at, alone_of, ray_of, onto_of, both_at, both_of, officer_of}
 use Rattle.squares.proofs.Members.{first_lt}
 use Rattle.squares.proofs.Testing.{and_true}
-use Rattle.piece_type.specs.Bitboards.{◌&◌, !◌, ◌==◌, ◌!=◌, EMPTY}
+use Rattle.piece_type.specs.Bitboards.{◌&◌, !◌, ◌!=◌, EMPTY}
 use Rattle.piece_type.specs.Boards.{pieces_of, color_combined, castle_rights}
 use Rattle.piece_type.specs.Statements.{◌>>◌, when, for}
 use Rattle.piece_type.specs.PieceTypes.{PieceType, CheckType, NotInCheck, InSimpleCheck, InDoubleCheck, nb_checkers, BishopType, RookType, QueenType}

@@ -1,4 +1,5 @@
 -- What the lists see of a board, and the Rust's `let`s that are said otherwise there.
+use Rattle.std.specs.Prelude.{if◌then◌else◌}
 use mathlib.Core.Path.{◌≡◌, refl, sym, ap, ◌∙◌}
 use mathlib.Core.Bool.{Bool, true, false, not, cond, not-not}
 use Prim.Native.Nat.{ℕ, ◌<◌}
@@ -17,7 +18,7 @@ use Rattle.retraction_list.specs.Entries.{capture_kind}
 use Rattle.view.specs.declared.View.{View}
 use Rattle.view.specs.Views.{castling_rooks, within, view_of}
 use Rattle.laws.proofs.Mans.{opp_opp}
-use Rattle.piece_type.specs.Bitboards.{◌&◌, !◌, ◌⊻◌, ◌!=◌, if◌then◌else◌, EMPTY, from_square}
+use Rattle.piece_type.specs.Bitboards.{◌&◌, !◌, ◌⊻◌, ◌!=◌, EMPTY, from_square}
 use Rattle.piece_type.specs.Squares.{to_my_backrank, make_square}
 use Rattle.piece_type.specs.Boards.{color_combined, castle_rights, king_square}
 use Rattle.piece_type.proofs.Sets.{meets_none}

@@ -1,6 +1,6 @@
 -- The operators of the Rust, as it writes them: on a `BitBoard`, a number here; and on squares, ranks, files and counts, numbers too. On tests,
 -- `&&`, `||` and `!` are `and`, `or` and `not`.
-use Rattle.std.specs.Prelude.{Bool, not, cond, ℕ, eqb}
+use Rattle.std.specs.Prelude.{Bool, not, ℕ, eqb}
 use Rattle.std.specs.Int.Bits.{bit_and, bit_or, bit_xor}
 use Rattle.squares.specs.Squares.{only}
 use Rattle.squares.specs.Members.{compl, first_of}
@@ -10,9 +10,7 @@ infix 90 !◌
 infixl 80 ◌&◌
 infixl 75 ◌⊻◌
 infixl 70 ◌¦◌
-infix 50 ◌==◌
 infix 50 ◌!=◌
-infix 10 if◌then◌else◌
 -- `!a` and `a & b`
 abbrev pub !◌ : ℕ → ℕ
 ! a = compl a
@@ -27,16 +25,9 @@ a ⊻ b = bit_xor a b
 abbrev pub ◌¦◌ : ℕ → ℕ → ℕ
 a ¦ b = bit_or a b
 
--- `a == b` and `a != b`
-abbrev pub ◌==◌ : ℕ → ℕ → Bool
-a == b = eqb a b
-
+-- `a != b`; `a == b` and `if t { x } else { y }` are the library's
 abbrev pub ◌!=◌ : ℕ → ℕ → Bool
 a != b = not (eqb a b)
-
--- `if t { x } else { y }`
-abbrev pub if◌then◌else◌ : {A : Type 0} → Bool → A → A → A
-if t then x else y = cond t x y
 
 -- `EMPTY`, `BitBoard::from_square(sq)` and `s.to_square()`
 abbrev pub EMPTY : ℕ

@@ -1,5 +1,5 @@
 -- The king's own `legals` (piece_type.rs, 504 to 608).
-use Rattle.std.specs.Prelude.{false, not, ℕ}
+use Rattle.std.specs.Prelude.{false, not, ℕ, ◌==◌, if◌then◌else◌}
 use Rattle.squares.specs.Tests.{◌and◌, ◌or◌}
 use Rattle.squares.specs.Squares.{file, rank}
 use Rattle.geometry.specs.Colors.{opp}
@@ -9,7 +9,7 @@ use Rattle.laws.specs.declared.Board.{Board}
 use Rattle.retraction_list.specs.declared.UnCaptureKind.TheVariants.{Optional, Necessary, Forbidden}
 use Rattle.retraction_list.specs.Entries.{entry_of}
 use Rattle.geometry.specs.Chess.{rook_moves}
-use Rattle.piece_type.specs.Bitboards.{◌&◌, !◌, ◌==◌, ◌!=◌, if◌then◌else◌, EMPTY, from_square, to_square}
+use Rattle.piece_type.specs.Bitboards.{◌&◌, !◌, ◌!=◌, EMPTY, from_square, to_square}
 use Rattle.piece_type.specs.Squares.{to_my_backrank, uleft, uright}
 use Rattle.piece_type.specs.Boards.{pieces_of, color_combined, castle_rights, not_no_rights, king_square, is_attacked}
 use Rattle.piece_type.specs.Statements.{Run, ◌>>◌, push, skip, when}

@@ -1,5 +1,5 @@
 -- The knight's own `legals` (piece_type.rs, 371 to 469).
-use Rattle.std.specs.Prelude.{false, ℕ}
+use Rattle.std.specs.Prelude.{false, ℕ, ◌==◌, if◌then◌else◌}
 use Rattle.squares.specs.Tests.{◌and◌}
 use Rattle.geometry.specs.Colors.{opp}
 use Rattle.geometry.specs.Lines.{between_of}
@@ -7,7 +7,7 @@ use Rattle.laws.specs.declared.Board.{Board}
 use Rattle.retraction_list.specs.declared.UnCaptureKind.{UnCaptureKind}
 use Rattle.retraction_list.specs.declared.UnCaptureKind.TheVariants.{Optional, Necessary}
 use Rattle.retraction_list.specs.Entries.{entry_of}
-use Rattle.piece_type.specs.Bitboards.{◌&◌, !◌, ◌==◌, ◌!=◌, if◌then◌else◌, EMPTY, from_square, to_square}
+use Rattle.piece_type.specs.Bitboards.{◌&◌, !◌, ◌!=◌, EMPTY, from_square, to_square}
 use Rattle.piece_type.specs.Boards.{pieces_of, color_combined, king_square}
 use Rattle.piece_type.specs.Statements.{Run, ◌>>◌, push, when, for}
 use Rattle.piece_type.specs.PieceTypes.{CheckType, nb_checkers, KnightType}

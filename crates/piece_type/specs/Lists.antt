@@ -1,5 +1,5 @@
 -- `enumerate_retractions` (retraction_gen.rs, 231 to 272), and the list of `is_limited_in_retractions` (289 to 295).
-use Rattle.std.specs.Prelude.{false, List, ◌≡◌, ℕ, ◌<◌, ◌^◌}
+use Rattle.std.specs.Prelude.{false, List, ◌≡◌, ℕ, ◌<◌, ◌^◌, ◌==◌, if◌then◌else◌}
 use Rattle.squares.specs.Squares.{file, size}
 use Rattle.geometry.specs.Colors.{opp}
 use Rattle.laws.specs.declared.EnPassantFlag.{EnPassantFlag}
@@ -9,7 +9,7 @@ use Rattle.retraction_list.specs.declared.SourceAndTargets.{SourceAndTargets}
 use Rattle.retraction_list.specs.declared.UnCaptureKind.TheVariants.{Forbidden}
 use Rattle.retraction_list.specs.Entries.{entry_of}
 use Rattle.geometry.specs.Chess.{file_set, rank_set}
-use Rattle.piece_type.specs.Bitboards.{◌&◌, !◌, ◌==◌, if◌then◌else◌, EMPTY}
+use Rattle.piece_type.specs.Bitboards.{◌&◌, !◌, EMPTY}
 use Rattle.piece_type.specs.Squares.{to_second_rank}
 use Rattle.piece_type.specs.Boards.{color_combined}
 use Rattle.piece_type.specs.Statements.{Run, ◌>>◌, push, skip, from_new}

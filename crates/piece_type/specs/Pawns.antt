@@ -1,5 +1,5 @@
 -- The pawn's own `legals` (piece_type.rs, 198 to 346).
-use Rattle.std.specs.Prelude.{Bool, true, false, ℕ, leb}
+use Rattle.std.specs.Prelude.{Bool, true, false, ℕ, leb, ◌==◌, if◌then◌else◌}
 use Rattle.squares.specs.Tests.{◌and◌, ◌or◌}
 use Rattle.squares.specs.Squares.{rank}
 use Rattle.squares.specs.Members.{members, for_each}
@@ -16,7 +16,7 @@ use Rattle.laws.specs.declared.Board.{Board}
 use Rattle.retraction_list.specs.declared.UnCaptureKind.TheVariants.{Necessary, Forbidden, UnEnPassant}
 use Rattle.retraction_list.specs.Entries.{entry_of}
 use Rattle.geometry.specs.Chess.{rank_set, adjacent_files, line_of}
-use Rattle.piece_type.specs.Bitboards.{◌&◌, !◌, ◌¦◌, ◌==◌, ◌!=◌, if◌then◌else◌, EMPTY, from_square, to_square}
+use Rattle.piece_type.specs.Bitboards.{◌&◌, !◌, ◌¦◌, ◌!=◌, EMPTY, from_square, to_square}
 use Rattle.piece_type.specs.Squares.{to_my_backrank, to_fourth_rank, to_their_backrank, ubackward, uforward, get_pawn_attacks}
 use Rattle.piece_type.specs.Boards.{pieces_of, color_combined, king_square}
 use Rattle.piece_type.specs.Statements.{Run, ◌>>◌, push, skip, when, for}

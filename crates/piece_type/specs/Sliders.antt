@@ -1,5 +1,5 @@
 -- The blanket `legals` (piece_type.rs, 17 to 157), which bishops, rooks and queens use.
-use Rattle.std.specs.Prelude.{false, ℕ}
+use Rattle.std.specs.Prelude.{false, ℕ, ◌==◌, if◌then◌else◌}
 use Rattle.squares.specs.Tests.{◌and◌}
 use Rattle.geometry.specs.Colors.{opp}
 use Rattle.geometry.specs.Lines.{between_of}
@@ -12,7 +12,7 @@ use Rattle.retraction_list.specs.declared.UnCaptureKind.{UnCaptureKind}
 use Rattle.retraction_list.specs.declared.UnCaptureKind.TheVariants.{Optional, Necessary}
 use Rattle.retraction_list.specs.Entries.{entry_of}
 use Rattle.geometry.specs.Chess.{line_of}
-use Rattle.piece_type.specs.Bitboards.{◌&◌, !◌, ◌⊻◌, ◌==◌, ◌!=◌, if◌then◌else◌, EMPTY, from_square, to_square}
+use Rattle.piece_type.specs.Bitboards.{◌&◌, !◌, ◌⊻◌, ◌!=◌, EMPTY, from_square, to_square}
 use Rattle.piece_type.specs.Squares.{to_my_backrank, make_square}
 use Rattle.piece_type.specs.Boards.{pieces_of, color_combined, castle_rights, king_square}
 use Rattle.piece_type.specs.Statements.{Run, ◌>>◌, push, when, for}

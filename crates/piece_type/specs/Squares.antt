@@ -1,12 +1,12 @@
 -- What piece_type.rs asks of the crate `chess` beyond geometry/specs/Chess.antt. Ranks and files are counted from 0, so `File::H` is 7.
-use Rattle.std.specs.Prelude.{ℕ, ◌+◌, ◌*◌, ◌%◌}
+use Rattle.std.specs.Prelude.{ℕ, ◌+◌, ◌*◌, ◌%◌, if◌then◌else◌}
 use Rattle.squares.specs.Squares.{file, rank, set_of}
 use Rattle.squares.specs.Tests.{◌or◌}
 use Rattle.geometry.specs.declared.Color.{Color}
 use Rattle.geometry.specs.Colors.{opp, own_rank, back_of}
 use Rattle.geometry.specs.Steps.{pawn_step, pawn_double}
 use Rattle.geometry.specs.Chess.{pawn_attacks}
-use Rattle.piece_type.specs.Bitboards.{◌&◌, !◌, ◌!=◌, if◌then◌else◌, EMPTY, from_square}
+use Rattle.piece_type.specs.Bitboards.{◌&◌, !◌, ◌!=◌, EMPTY, from_square}
 
 -- `color.to_my_backrank()`, `to_second_rank`, `to_fourth_rank`, `to_their_backrank`
 abbrev pub to_my_backrank : Color → ℕ
