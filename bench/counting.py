@@ -7,8 +7,7 @@ from programs import ROOT, command
 TEXTS = open(HERE + '/boards.txt', 'rb').read().splitlines()
 # The program of each question, and what stands before the text in its line.
 OURS = {'lastmoves': ('lastmoves', b''), 'ask count': ('ask', b'count\t'), 'ask strict': ('ask', b'strict\t')}
-NATIVE = os.uname().machine == 'x86_64'
-STRIDE = 10 if NATIVE else 100
+STRIDE = 10
 VALGRIND = ['valgrind', '--tool=exp-bbv', '--instr-count-only=yes', '--bb-out-file=/dev/null']
 VALGRIND_SAYS = re.compile(rb'Total instructions: (\d+)\n.*Total reps: (\d+)\n.*Unique reps: (\d+)')
 
@@ -39,29 +38,14 @@ def timed(command, data, output=subprocess.DEVNULL):
 
 def counter():
     """What counts instructions here, or None."""
-    return ('valgrind' if shutil.which('valgrind') else None) if NATIVE else 'emulator'
+    return 'valgrind' if shutil.which('valgrind') else None
 
 
 def counted(command, data):
-    """The instructions of one run as the machine counts them; by valgrind, also as callgrind does, which takes each element that a `rep movs` or `rep stos`
-    moves for one."""
-    return by_valgrind(command, data) if NATIVE else [by_emulator(command, data)]
-
-
-def by_valgrind(command, data):
+    """The instructions of one run as the machine counts them, and as callgrind does, which takes each element that a `rep movs` or `rep stos` moves for one."""
     said = subprocess.run(VALGRIND + command, input=data, stdout=subprocess.DEVNULL, stderr=subprocess.PIPE, check=True).stderr
     instructions, elements, reps = map(int, VALGRIND_SAYS.search(said).groups())
     return [instructions, instructions - reps + elements]
-
-
-def by_emulator(command, data):
-    """The kit's emulator runs one instruction at a time and names each."""
-    emulator, *rest = command
-    run = subprocess.Popen([emulator, '-one-insn-per-tb', '-d', 'exec,nochain', *rest], stdin=subprocess.PIPE, stdout=subprocess.DEVNULL,
-                           stderr=subprocess.PIPE)
-    run.stdin.write(data)
-    run.stdin.close()
-    return sum(line.startswith(b'Trace') for line in run.stderr)
 
 
 def a_board(command, before, texts):

@@ -1,5 +1,5 @@
 """Where the programs are that `oracle/compare` and `bench/run` run, how they are built, and how they are asked."""
-import os, subprocess, sys
+import os, shutil, subprocess, sys, time
 import scripts
 
 ROOT = os.path.dirname(os.path.dirname(os.path.abspath(__file__)))
@@ -27,21 +27,34 @@ def newest_source():
 def programs(built, names=('lastmoves', 'ask')):
     """The commands of these programs: LASTMOVES, STEP, ASK, SHOW_TABLES, HISTORIES, SOLUTIONS of the environment, else target/bin's, proved first unless
     `built`."""
-    own = [n for n in names if n.upper() not in os.environ]
-    if own and not built and subprocess.run(['rt', 'check'] + own, cwd=ROOT, stdout=sys.stderr).returncode:
-        sys.exit('rt check %s failed' % ' '.join(own))
+    for name in names:
+        if name.upper() not in os.environ and not built:
+            build(name)
     return [[os.environ[n.upper()]] if n.upper() in os.environ else command(ROOT + '/target/bin/' + n) for n in names]
 
 
+def build(name):
+    """Proves and builds a program by `rt run` in its crate, and copies it to target/bin, dated to the beginning of the build, as bin/proved.sh does. rt also
+    runs it, on no input; how that ends says nothing, so it has been built where rt says that it is running it."""
+    began, running, program = time.time(), False, ROOT + '/target/bin/' + name
+    with subprocess.Popen(['rt', 'run'], cwd=ROOT + '/crates/' + name, stdin=subprocess.DEVNULL, stdout=subprocess.DEVNULL, stderr=subprocess.PIPE,
+                          text=True, errors='replace') as rt:
+        for line in rt.stderr:
+            sys.stderr.write(line)
+            running = running or line.startswith('rt: running out/%s;' % name)
+    if not running:
+        sys.exit('rt run in crates/%s failed' % name)
+    os.makedirs(ROOT + '/target/bin', exist_ok=True)
+    shutil.copy(ROOT + '/crates/%s/out/%s' % (name, name), program + '.new')
+    os.utime(program + '.new', (began, began))
+    os.replace(program + '.new', program)
+
+
 def command(program):
-    """How a built program is started: programs are x86-64, and elsewhere the kit's emulator runs them, as `rt check` itself does."""
+    """How a built program is started."""
     if not os.path.exists(program):
         sys.exit('no program ' + program)
-    if os.uname().machine == 'x86_64':
-        return [program]
-    guide = subprocess.run(['rt', 'doc'], stdout=subprocess.PIPE, check=True, text=True).stdout.strip()
-    kit = os.path.dirname(os.path.dirname(guide)) + '/on/%s/toolchain/' % os.uname().machine
-    return [kit + 'bin/qemu-x86_64', kit + 'lib/ld-linux-x86-64.so.2', '--library-path', kit + 'lib', program]
+    return [program]
 
 
 def load(name):

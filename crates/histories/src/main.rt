@@ -1,22 +1,25 @@
 // Answers each line of standard input, a text of edition A, a space and a depth, by the first history of so many plies.
+#![tactic(auto)]
+
 ghost use Rattle.std.specs.Prelude.{◌≤◌};
 ghost use Rattle.geometry.specs.Lines.{IsBetween};
 ghost use Rattle.io.specs.Counts.{IsPrefixLen};
 
 use input::Step;
-use libc::{STDERR_FILENO, STDOUT_FILENO};
 use refusal::Refusal;
+use std::io::Input;
 
-fn main() {
+fn main(rt: HostRuntime) {
     let t = tables::between_table();
     let mut chunk = io::large_buffer();
     let mut line = io::large_buffer();
     let mut out = [0u8; 196608];
-    answer_all(&t, &mut chunk, &mut line, &mut out);
+    answer_all(&rt, &t, &mut chunk, &mut line, &mut out);
 }
 
 // No input uses the turns up. Where nothing more can be written, nothing more is read. `t` is the table of squares between, lent.
 fn answer_all(
+    rt: &(impl Input + Print + Eprint),
     t: &[u64; 4096],
     chunk: &mut [u8; 65536],
     line: &mut [u8; 65536],
@@ -26,18 +29,18 @@ fn answer_all(
 {
     let mut c = input::start();
     for _ in 0..u64::MAX {
-        let s = input::next(chunk, line, c);
+        let s = input::next(rt, chunk, line, c);
         match s {
             Step::End => {
                 return;
             }
             Step::Failed => {
-                io::write_all(STDERR_FILENO, b"histories: the input cannot be read\n");
+                let _ = eprintln!(rt; "histories: the input cannot be read");
                 return;
             }
             Step::Line { len, long, next } => {
-                if !answer(t, line, len, long, out) {
-                    io::write_all(STDERR_FILENO, b"histories: the output cannot be written\n");
+                if !answer(rt, t, line, len, long, out) {
+                    let _ = eprintln!(rt; "histories: the output cannot be written");
                     return;
                 }
                 c = next;
@@ -48,6 +51,7 @@ fn answer_all(
 
 // One write a line. A line longer than its buffer has no form, though what the buffer holds may have it.
 fn answer(
+    stdout: &impl Print,
     t: &[u64; 4096],
     line: &[u8; 65536],
     len: usize,
@@ -58,16 +62,16 @@ fn answer(
 {
     if long {
         let n = reply::put_refused(Refusal::Text, out);
-        return write(out, n);
+        return write(stdout, out, n);
     }
     let asked: &[u8] = line;
     let n = history_reply::inner::reply(t, &asked[..len], out);
-    write(out, n)
+    write(stdout, out, n)
 }
 
-fn write(out: &[u8; 196608], n: usize) -> bool
+fn write(stdout: &impl Print, out: &[u8; 196608], n: usize) -> bool
     requires { IsPrefixLen n out.now }
 {
     let printed: &[u8] = out;
-    io::write_all(STDOUT_FILENO, &printed[..n])
+    stdout.write_all(&printed[..n]).is_ok()
 }

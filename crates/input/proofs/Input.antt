@@ -2,16 +2,15 @@
 use mathlib.Core.Path.{◌≡◌, refl, sym, ◌∙◌, ap, ap₂, subst}
 use mathlib.Core.Bool.{Bool, true, false, cond}
 use mathlib.Core.List.{List, [], ◌∷◌, ◌++◌, append_assoc, append-nil}
-use Prim.Native.Nat.{ℕ, zero, suc, ◌+◌, ◌-◌, ◌≤◌, ◌<◌, min}
+use Prim.Native.Nat.{ℕ, zero, suc, ◌+◌, ◌-◌, ◌≤◌, ◌<◌}
 use native.Mathlib.Omega.{arith}
 use native.Mathlib.Numerals.{add-one}
 use lib.Dec.{leb, ltb}
-use lib.IntN.{ℤ, pos, negsuc}
 use lib.ListN.{length, get_or, take, drop, length-append, get_or-append}
 use lib.Seq.{slice, length-slice, length-take-le, split_at, take-take, drop-append-le, get_or-take, get_or-drop, get_or-append-add}
 use borrow.Author.Tests.{leb-true, ltb-true, ltb-false}
-use Rattle.libc.specs.Io.{Moved}
-use Rattle.io.specs.Counts.{clamp_len}
+use Rattle.std.specs.Prelude.{Option, None, Some, IfSome}
+use Rattle.std.specs.Option.{unwrap_or}
 use Rattle.squares.specs.Tests.{◌and◌}
 use Rattle.input.specs.declared.Cursor.{Cursor}
 use Rattle.chunks.specs.declared.Ending.{Ending}
@@ -33,7 +32,7 @@ unread_inside c = by (leb c.at c.end) refl (leb c.end 65536) refl
 
 -- the bytes that the reads brought
 abbrev pub came : Read → List ℕ
-came r = take (clamp_len r.got 65536) r.chunk
+came r = take (unwrap_or r.got 0) r.chunk
 
 pub joined : List Read → List ℕ
 joined [] = []
@@ -137,15 +136,13 @@ unfolding read_on joined unended
 read_whole [] w s p a n = (refl, p)
 read_whole (r ∷ rs) w s p a n = by r.got r.chunk a.0 a.1 n (λ v t q f. read_whole rs v t q a.2 f)
   where
-    by : (z : ℤ) (t : List ℕ) → Moved 65536 z → length t ≡ 65536 → Needed (read_on w s) (record { got = z; chunk = t } ∷ rs)
+    by : (z : Option ℕ) (t : List ℕ) → IfSome z (λ n. n ≤ 65536) → length t ≡ 65536 → Needed (read_on w s) (record { got = z; chunk = t } ∷ rs)
         → ((v t : List ℕ) → Plain v → Needed (read_on v t) rs → Whole v (joined rs) (read_on v t rs))
-        → Whole w (take (clamp_len z 65536) t ++ joined rs) (brought w t z (λ v. read_on v t rs))
-    by (pos zero) t m l n on = (ap (λ (x : List ℕ). w ++ x) (none_left rs Over refl (λ b. n 1 (omega arith))), p)
-    by (negsuc i) t m l n on = (ap (λ (x : List ℕ). w ++ x) (none_left rs Failed refl (λ b. n 1 (omega arith))), p)
-    by (pos (suc i)) t m l n on =
-        let c : min (suc i) 65536 ≡ suc i = omega arith in
-        subst (λ (j : ℕ). Whole w (take j t ++ joined rs) (scanned w t 0 (suc i) (λ v. read_on v t rs))) (sym c)
-        (scan_whole w t 0 (suc i) (omega arith) (omega arith) p rs (λ k b. n (suc k) (omega arith)) (λ v q f. on v t q f))
+        → Whole w (take (unwrap_or z 0) t ++ joined rs) (brought w t z (λ v. read_on v t rs))
+    by (Some zero) t m l n on = (ap (λ (x : List ℕ). w ++ x) (none_left rs Over refl (λ b. n 1 (omega arith))), p)
+    by None t m l n on = (ap (λ (x : List ℕ). w ++ x) (none_left rs Failed refl (λ b. n 1 (omega arith))), p)
+    by (Some (suc i)) t m l n on =
+        scan_whole w t 0 (suc i) (omega arith) (omega arith) p rs (λ k b. n (suc k) (omega arith)) (λ v q f. on v t q f)
 
 -- the unread bytes and those that the reads brought are the line, its newline, and what is unread then
 pub whole : (s l : List ℕ) (c : Cursor) (r : Step) (s' l' : List ℕ) (a : Gives s l c r s' l') → length s ≡ 65536 → let f = searched s c a.reads in

@@ -6,16 +6,10 @@ use mathlib.Core.Logic.{◌⊎◌, ⊎_elim}
 use Prim.Native.Nat.{ℕ, zero, suc, ◌+◌, ◌-◌, ◌≤◌, ◌<◌, min}
 use native.Mathlib.Omega.{arith}
 use lib.Dec.{leb, ltb}
-use lib.IntN.{ℤ, pos, negsuc}
-use lib.Signed.{lt_z}
 use lib.ListN.{length, take, length-append}
 use lib.Seq.{slice, take-append-le, take-append_seam}
-use mir.Syntax.{w64}
-use mir.Val.{SFits, to_z, of_z}
-use mir.Facts.{to_z-of_z}
 use borrow.Author.Tests.{le-leb, lt-leb, ltb-true, ltb-false}
-use Rattle.libc.specs.Io.{Moved}
-use Rattle.io.specs.Counts.{clamp_len}
+use Rattle.std.specs.Prelude.{Option, None, Some, IfSome}
 use Rattle.squares.specs.Tests.{◌and◌}
 use Rattle.input.specs.declared.Cursor.{Cursor}
 use Rattle.chunks.specs.declared.Part.{Part}
@@ -26,33 +20,13 @@ use Rattle.input.specs.declared.Step.TheVariants.{Line, End, Failed as failed}
 use Rattle.chunks.specs.Newlines.{stop_from}
 use Rattle.input.specs.Reading.{Read, Answered, Found, found_at, scanned, brought, read_on, unread_at, searched, step_for, step_of, kept_in, Gives}
 use Rattle.chunks.specs.inner.Splitting.{stop_of, cut_of, line_of, Fit, Cuts}
-use Rattle.input.specs.inner.Parts.{is_open, cursor_of, opened_at, ending_of, filled_of, Turns}
+use Rattle.input.specs.inner.Parts.{is_open, cursor_of, opened_at, filled_of, Turns}
 use Rattle.chunks.proofs.Cuts.{stop_within, cut_fit}
 use Rattle.input.proofs.Kept.{with_part, Kept, kept_cut}
 
 abbrev flag : Bool → ℕ
 flag true = 1
 flag false = 0
-
--- how a read's answer ends the bytes, as the code tells by its sign
-module _ (z : ℤ) (f : SFits w64 z) where
-  pub ends_failed : lt_z (to_z w64 (of_z w64 z)) (pos 0) ≡ true → Failed ≡ ending_of z
-  ends_failed e = by z (sym (ap (λ (x : ℤ). lt_z x (pos 0)) (to_z-of_z f)) ∙ e)
-    where
-      by : (x : ℤ) → lt_z x (pos 0) ≡ true → Failed ≡ ending_of x
-      by (negsuc n) e = refl
-      by (pos n) e = absurd (omega (arith, ltb-true n 0 e))
-
-  pub ends_over : of_z w64 z ≡ 0 → Over ≡ ending_of z
-  ends_over e = ap ending_of (sym (ap (to_z w64) e) ∙ to_z-of_z f)
-
-  pub ends_open : lt_z (to_z w64 (of_z w64 z)) (pos 0) ≡ false → (of_z w64 z ≡ 0 → ⊥) → Open ≡ ending_of z
-  ends_open e h = by z (sym (ap (λ (x : ℤ). lt_z x (pos 0)) (to_z-of_z f)) ∙ e) h
-    where
-      by : (x : ℤ) → lt_z x (pos 0) ≡ false → (of_z w64 x ≡ 0 → ⊥) → Open ≡ ending_of x
-      by (pos (suc n)) e h = refl
-      by (pos zero) e h = absurd (h refl)
-      by (negsuc n) e h = absurd (omega (arith, ap flag e))
 
 -- where a cursor lets the search begin
 module _ (c : Cursor) where
@@ -94,24 +68,18 @@ module _ (w s : List ℕ) (p : Part) (qs : List Read) where
 
 -- and as a read leaves it, whatever the read answered
 module _ (w s : List ℕ) (p : Part) (qs : List Read) (fit : Fit p) where
-  abbrev Goes : ℤ → Part → Type 0
+  abbrev Goes : Option ℕ → Part → Type 0
   Goes got q = brought w s got (λ v. read_on v s qs) ≡ onward (cut_of s q).ending (with_part w s q) s (cut_of s q).at q.end qs
 
-  brought_cut : (got : ℤ) → Moved 65536 got → Goes got (filled_of p got (clamp_len got 65536))
+  brought_cut : (got : Option ℕ) → IfSome got (λ n. n ≤ 65536) → Goes got (filled_of p got)
   unfolding stop_from
-  brought_cut (pos (suc n)) m =
-      let e : min (suc n) 65536 ≡ suc n = omega arith in
-      subst (λ (i : ℕ). Goes (pos (suc n)) (filled_of p (pos (suc n)) i)) (sym e)
-      (scan_cut w s (filled_of p (pos (suc n)) (suc n)) qs (record { unread = omega arith; inside = m; short = fit.short }) refl)
-  brought_cut (pos zero) m = sym (ap (λ (v : List ℕ). found_at v Over s 0 0) (append-nil w))
-  brought_cut (negsuc n) m = sym (ap (λ (v : List ℕ). found_at v Failed s 0 0) (append-nil w))
+  brought_cut (Some (suc n)) m = scan_cut w s (filled_of p (Some (suc n))) qs (record { unread = omega arith; inside = m; short = fit.short }) refl
+  brought_cut (Some zero) m = sym (ap (λ (v : List ℕ). found_at v Over s 0 0) (append-nil w))
+  brought_cut None m = sym (ap (λ (v : List ℕ). found_at v Failed s 0 0) (append-nil w))
 
-filled_fit : (p : Part) → Fit p → (got : ℤ) → Fit (filled_of p got (clamp_len got 65536))
-filled_fit p fit got = record { unread = omega arith; inside = by got; short = fit.short }
-  where
-    by : (z : ℤ) → clamp_len z 65536 ≤ 65536
-    by (pos n) = omega arith
-    by (negsuc n) = omega arith
+filled_fit : (p : Part) → Fit p → (got : Option ℕ) → IfSome got (λ n. n ≤ 65536) → Fit (filled_of p got)
+filled_fit p fit (Some n) m = record { unread = omega arith; inside = m; short = fit.short }
+filled_fit p fit None m = record { unread = omega arith; inside = omega arith; short = fit.short }
 
 -- The loop stands at the part p: the reads were needed, and whatever reads follow, the search goes on from p.
 pub record Going (s₀ l : List ℕ) (c : Cursor) (s line : List ℕ) (p : Part) (turns : ℕ) : Type 0 where
@@ -152,7 +120,7 @@ going_first s l line c p q o h =
     (λ qs. ap (λ (x : Part). scanned [] s x.at x.end (λ w. read_on w s qs)) (sym e) ∙ scan_cut [] s p qs o.1 (ap (λ (x : Part). x.ending) e))
     q line h.cut h.keeps
 
-answered_more : (rs : List Read) (r : Read) → Answered rs → Moved 65536 r.got → length r.chunk ≡ 65536 → Answered (rs ++ (r ∷ []))
+answered_more : (rs : List Read) (r : Read) → Answered rs → IfSome r.got (λ n. n ≤ 65536) → length r.chunk ≡ 65536 → Answered (rs ++ (r ∷ []))
 answered_more [] r a m w = (m, w, tt)
 answered_more (q ∷ rs) r a m w = (a.0, a.1, answered_more rs r a.2 m w)
 
@@ -179,8 +147,8 @@ module _ (s₀ l : List ℕ) (c : Cursor) (s line : List ℕ) (p : Part) (turns 
   unfolding read_on
   going_on h s' line' q t =
       let r : Read = record { got = t.got; chunk = s' } in
-      going s₀ l c s' line (filled_of p t.got (clamp_len t.got 65536)) (turns - 1) t.answered.1
-      (filled_fit p fit t.got) g.bytes (record { len = g.kept.len; long = g.kept.long; held = g.kept.held })
+      going s₀ l c s' line (filled_of p t.got) (turns - 1) t.answered.1
+      (filled_fit p fit t.got t.answered.0) g.bytes (record { len = g.kept.len; long = g.kept.long; held = g.kept.held })
       (g.reads ++ (r ∷ [])) (answered_more g.reads r g.answered t.answered.0 t.answered.1) (needed_more r)
       (omega (arith, g.made, length-append g.reads (r ∷ [])))
       (λ qs. ap (searched s₀ c) (append_assoc g.reads (r ∷ []) qs) ∙ g.later (r ∷ qs)
@@ -197,21 +165,8 @@ open_is Newline e = absurd (omega (arith, ap flag e))
 open_is Over e = absurd (omega (arith, ap flag e))
 open_is Failed e = absurd (omega (arith, ap flag e))
 
--- the turn, from what its parts promise; z is the read's answer as it was handed on
-pub turns : (p : Part) (line s' line' : List ℕ) (r f : Part) (got z : ℤ) (n : ℕ) → Moved 65536 got → z ≡ got → n ≡ clamp_len z (length s') → f ≡ filled_of p z n
-    → Cuts s' line f r line' → Turns p line r s' line'
-turns p line s' line' r f got z n m e c h k =
-    let filled : f ≡ filled_of p got (clamp_len got 65536) =
-    h ∙ ap₂ (filled_of p) e (c ∙ ap₂ clamp_len e k.wide) in
-    record {
-      got = got;
-      answered = (m, k.wide);
-      cut = k.cut ∙ ap (cut_of s') filled;
-      keeps = k.keeps ∙ ap (λ (x : Part). line_of s' x line) filled;
-    }
-
 pub turn_fit : (p : Part) → Fit p → (line : List ℕ) (q : Part) (s' line' : List ℕ) → Turns p line q s' line' → Fit q
-turn_fit p fit line q s' line' t = subst Fit (sym t.cut) (cut_fit s' (filled_of p t.got (clamp_len t.got 65536)) (filled_fit p fit t.got))
+turn_fit p fit line q s' line' t = subst Fit (sym t.cut) (cut_fit s' (filled_of p t.got) (filled_fit p fit t.got t.answered.0))
 
 -- what the loop leaves
 module _ (s₀ l : List ℕ) (c : Cursor) (s line : List ℕ) (p : Part) (turns : ℕ) (g : Going s₀ l c s line p turns) where

@@ -1,7 +1,6 @@
 -- The next line of the input, by what the system's reads bring.
-use Rattle.std.specs.Prelude.{◌≡◌, Bool, cond, List, [], ◌∷◌, ◌++◌, ℕ, zero, suc, ◌+◌, ◌-◌, ◌<◌, min, leb, ltb, ℤ, pos, negsuc, length, take, drop}
+use Rattle.std.specs.Prelude.{◌≡◌, Bool, cond, List, [], ◌∷◌, ◌++◌, ℕ, zero, suc, ◌+◌, ◌-◌, ◌<◌, ◌≤◌, min, leb, ltb, Option, None, Some, IfSome, length, take, drop}
 use Rattle.std.proofs.Math.Seq.{slice}
-use Rattle.libc.specs.Io.{Moved}
 use Rattle.squares.specs.Tests.{◌and◌}
 use Rattle.chunks.specs.Newlines.{stop_from}
 use Rattle.input.specs.declared.Cursor.{Cursor}
@@ -10,16 +9,16 @@ use Rattle.chunks.specs.declared.Ending.TheVariants.{Open, Newline, Over, Failed
 use Rattle.input.specs.declared.Step.{Step}
 use Rattle.input.specs.declared.Step.TheVariants.{Line, End, Failed as failed}
 
--- a read as the system answers it: -1 where it failed, else how many bytes it put at the start of the chunk, 0 at the end of the input; and
+-- a read as the system answers it: none where it failed, else how many bytes it put at the start of the chunk, 0 at the end of the input; and
 -- what the chunk then holds
 pub record Read : Type 0 where
-  pub got : ℤ
+  pub got : Option ℕ
   pub chunk : List ℕ
 
 -- all that is known of reads: no more bytes came than the chunk has
 abbrev pub Answered : List Read → Type 0
 Answered [] = Unit {0}
-Answered (r ∷ rs) = Moved 65536 r.got × (length r.chunk ≡ 65536) × Answered rs
+Answered (r ∷ rs) = IfSome r.got (λ n. n ≤ 65536) × (length r.chunk ≡ 65536) × Answered rs
 
 -- how far the search for a line is: the line's bytes and how they end, what the chunk holds, and that its bytes at..end are unread
 pub record Found : Type 0 where
@@ -39,10 +38,10 @@ scanned w s at end later =
     cond (ltb stop end) (found_at (w ++ slice at stop s) Newline s (stop + 1) end) (later (w ++ slice at end s))
 
 -- by the answer of a read
-abbrev pub brought : List ℕ → List ℕ → ℤ → (List ℕ → Found) → Found
-brought w s (pos (suc n)) later = scanned w s 0 (suc n) later
-brought w s (pos zero) later = found_at w Over s 0 0
-brought w s (negsuc n) later = found_at w Failed s 0 0
+abbrev pub brought : List ℕ → List ℕ → Option ℕ → (List ℕ → Found) → Found
+brought w s (Some (suc n)) later = scanned w s 0 (suc n) later
+brought w s (Some zero) later = found_at w Over s 0 0
+brought w s None later = found_at w Failed s 0 0
 
 -- one read after the other, none of the chunk's bytes being unread before
 unfoldable pub read_on : List ℕ → List ℕ → List Read → Found

@@ -1,12 +1,14 @@
 // The lines of standard input one after the other in bounded memory.
-ghost use Rattle.std.specs.Prelude.{◌≡◌, ◌≤◌};
+#![tactic(auto)]
+
+ghost use Rattle.std.specs.Prelude.{◌≡◌, ◌≤◌, IfSome};
 ghost use Rattle.input.specs.declared.Step.TheVariants.{Line};
 ghost use Rattle.chunks.specs.inner.Splitting.{Fit};
 ghost use Rattle.input.specs.inner.Parts.{is_open, cursor_of, opened_at, ending_of, filled_of, Turns};
 ghost use Rattle.input.specs.Reading.{unread_at, step_for, Gives};
 
 use chunks::{Ending, Part};
-use libc::STDIN_FILENO;
+use std::io::{Input, Read};
 
 // The bytes at..end of what was read are unread.
 #[derive(Clone, Copy)]
@@ -35,13 +37,13 @@ pub fn start() -> Cursor
 }
 
 // The next line. Nothing says that an input ends, so the reads are counted down from a number that no input uses up.
-pub fn next(chunk: &mut [u8; 65536], line: &mut [u8; 65536], c: Cursor) -> Step
+pub fn next(stdin: &impl Input, chunk: &mut [u8; 65536], line: &mut [u8; 65536], c: Cursor) -> Step
     ensures { Gives chunk.old line.old c result chunk.new line.new }
 {
     let mut p = chunks::inner::cut(chunk, line, opened(c));
     let mut turns = u64::MAX;
     while turns > 0 && is_open(p) {
-        p = turn(chunk, line, p);
+        p = turn(stdin, chunk, line, p);
         turns -= 1;
     }
     step_of(p)
@@ -87,39 +89,39 @@ fn is_open(p: Part) -> bool
 }
 
 // Reads once, and cuts what came.
-fn turn(chunk: &mut [u8; 65536], line: &mut [u8; 65536], p: Part) -> Part
+fn turn(stdin: &impl Input, chunk: &mut [u8; 65536], line: &mut [u8; 65536], p: Part) -> Part
     requires { Fit p }
     ensures { Turns p line.old result chunk.new line.new }
 {
-    let got = libc::read(STDIN_FILENO, chunk);
-    let n = io::count(got, chunk);
-    chunks::inner::cut(chunk, line, filled(p, got, n))
+    let mut reader = stdin.reader();
+    let got = reader.read(chunk).ok();
+    chunks::inner::cut(chunk, line, filled(p, got))
 }
 
-// After a read that answered `got`, n bytes.
-fn filled(p: Part, got: isize, n: usize) -> Part
-    requires { Fit p × (n ≤ 65536) }
-    ensures { (result ≡ filled_of p got n) × Fit result }
+// After a read that brought `got` bytes, or failed.
+fn filled(p: Part, got: Option<usize>) -> Part
+    requires fit { Fit p }
+    requires within { IfSome got (λ n. n ≤ 65536) }
+    ensures value { result ≡ filled_of p got }
+    ensures fits { Fit result }
 {
     Part {
         at: 0,
-        end: n,
+        end: got.unwrap_or(0),
         len: p.len,
         long: p.long,
         ending: ending_of(got),
     }
 }
 
-fn ending_of(got: isize) -> Ending
+fn ending_of(got: Option<usize>) -> Ending
     ensures { result ≡ ending_of got }
 {
-    if got < 0 {
-        return Ending::Failed;
+    match got {
+        None => Ending::Failed,
+        Some(0) => Ending::Over,
+        Some(_) => Ending::Open,
     }
-    if got == 0 {
-        return Ending::Over;
-    }
-    Ending::Open
 }
 
 // At the end of the input what has no newline is a line too. A line that a failed read cut off is none.

@@ -1,12 +1,14 @@
 // Answers each line of standard input, a text, with the last moves that its board may have had.
+#![tactic(auto)]
+
 ghost use Rattle.std.specs.Prelude.{◌≤◌};
 ghost use Rattle.geometry.specs.Lines.{IsBetween};
 
 use input::Step;
 use laws::Edition;
-use libc::{STDERR_FILENO, STDOUT_FILENO};
+use std::io::Input;
 
-fn main() {
+fn main(rt: HostRuntime) {
     let t = tables::between_table();
     let mut chunk = io::large_buffer();
     let mut line = io::large_buffer();
@@ -14,6 +16,7 @@ fn main() {
     let mut strict = [0u16; 8192];
     let mut out = [0u8; 196608];
     answer_all(
+        &rt,
         &t,
         &mut chunk,
         &mut line,
@@ -25,6 +28,7 @@ fn main() {
 
 // No input uses the turns up. Where nothing more can be written, nothing more is read. `t` is the table of squares between, lent.
 fn answer_all(
+    rt: &(impl Input + Print + Eprint),
     t: &[u64; 4096],
     chunk: &mut [u8; 65536],
     line: &mut [u8; 65536],
@@ -36,18 +40,18 @@ fn answer_all(
 {
     let mut c = input::start();
     for _ in 0..u64::MAX {
-        let s = input::next(chunk, line, c);
+        let s = input::next(rt, chunk, line, c);
         match s {
             Step::End => {
                 return;
             }
             Step::Failed => {
-                io::write_all(STDERR_FILENO, b"lastmoves: the input cannot be read\n");
+                let _ = eprintln!(rt; "lastmoves: the input cannot be read");
                 return;
             }
             Step::Line { len, long: _, next } => {
-                if !answer_line(t, line, len, listed, strict, out) {
-                    io::write_all(STDERR_FILENO, b"lastmoves: the output cannot be written\n");
+                if !answer_line(rt, t, line, len, listed, strict, out) {
+                    let _ = eprintln!(rt; "lastmoves: the output cannot be written");
                     return;
                 }
                 c = next;
@@ -58,6 +62,7 @@ fn answer_all(
 
 // One write a line. A line longer than its buffer has no form, and neither have its first 65,536 bytes.
 fn answer_line(
+    stdout: &impl Print,
     t: &[u64; 4096],
     line: &[u8; 65536],
     len: usize,
@@ -70,5 +75,5 @@ fn answer_line(
     let text: &[u8] = line;
     let n = reply::inner::reply(t, &text[..len], Edition::A, listed, strict, out);
     let printed: &[u8] = out;
-    io::write_all(STDOUT_FILENO, &printed[..n])
+    stdout.write_all(&printed[..n]).is_ok()
 }

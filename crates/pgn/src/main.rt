@@ -1,26 +1,36 @@
 // Answers each line of standard input, a command letter, a space and the rest: `A RECORD` and `B RECORD` by the last moves of the record's board,
 // read in that edition, `S HALF FULL TEXT` by the record of a text of edition A.
+#![tactic(auto)]
+
 ghost use Rattle.std.specs.Prelude.{◌≤◌};
 ghost use Rattle.io.specs.Counts.{IsPrefixLen};
 
 use input::Step;
 use laws::Edition;
-use libc::{STDERR_FILENO, STDOUT_FILENO};
 use refusal::Refusal;
+use std::io::Input;
 
 mod counters; // counters.rt: the two counters of a text that is sent out
 
-fn main() {
+fn main(rt: HostRuntime) {
     let mut chunk = io::large_buffer();
     let mut line = io::large_buffer();
     let mut listed = [0u16; 8192];
     let mut strict = [0u16; 8192];
     let mut out = [0u8; 196608];
-    answer_all(&mut chunk, &mut line, &mut listed, &mut strict, &mut out);
+    answer_all(
+        &rt,
+        &mut chunk,
+        &mut line,
+        &mut listed,
+        &mut strict,
+        &mut out,
+    );
 }
 
 // No input uses the turns up. Where nothing more can be written, nothing more is read.
 fn answer_all(
+    rt: &(impl Input + Print + Eprint),
     chunk: &mut [u8; 65536],
     line: &mut [u8; 65536],
     listed: &mut [u16; 8192],
@@ -29,18 +39,18 @@ fn answer_all(
 ) {
     let mut c = input::start();
     for _ in 0..u64::MAX {
-        let s = input::next(chunk, line, c);
+        let s = input::next(rt, chunk, line, c);
         match s {
             Step::End => {
                 return;
             }
             Step::Failed => {
-                io::write_all(STDERR_FILENO, b"pgn: the input cannot be read\n");
+                let _ = eprintln!(rt; "pgn: the input cannot be read");
                 return;
             }
             Step::Line { len, long: _, next } => {
-                if !answer_line(line, len, listed, strict, out) {
-                    io::write_all(STDERR_FILENO, b"pgn: the output cannot be written\n");
+                if !answer_line(rt, line, len, listed, strict, out) {
+                    let _ = eprintln!(rt; "pgn: the output cannot be written");
                     return;
                 }
                 c = next;
@@ -51,6 +61,7 @@ fn answer_all(
 
 // By the command's letter. A line longer than its buffer is answered for what the buffer holds: no record or text of that length is taken.
 fn answer_line(
+    stdout: &impl Print,
     line: &[u8; 65536],
     len: usize,
     listed: &mut [u16; 8192],
@@ -63,10 +74,10 @@ fn answer_line(
     let asked = &buffer[..len];
     let letter = letter_of(asked);
     match letter {
-        b'A' => answer_record(rest(asked), Edition::A, listed, strict, out),
-        b'B' => answer_record(rest(asked), Edition::B, listed, strict, out),
-        b'S' => answer_sent(rest(asked), out),
-        _ => refused(out),
+        b'A' => answer_record(stdout, rest(asked), Edition::A, listed, strict, out),
+        b'B' => answer_record(stdout, rest(asked), Edition::B, listed, strict, out),
+        b'S' => answer_sent(stdout, rest(asked), out),
+        _ => refused(stdout, out),
     }
 }
 
@@ -87,19 +98,20 @@ fn rest(line: &[u8]) -> &[u8] {
     &line[2..]
 }
 
-fn refused(out: &mut [u8; 196608]) -> bool {
+fn refused(stdout: &impl Print, out: &mut [u8; 196608]) -> bool {
     let n = reply::put_refused(Refusal::Text, out);
-    write(out, n)
+    write(stdout, out, n)
 }
 
-fn write(out: &[u8; 196608], n: usize) -> bool
+fn write(stdout: &impl Print, out: &[u8; 196608], n: usize) -> bool
     requires { IsPrefixLen n out.now }
 {
     let printed: &[u8] = out;
-    io::write_all(STDOUT_FILENO, &printed[..n])
+    stdout.write_all(&printed[..n]).is_ok()
 }
 
 fn answer_record(
+    stdout: &impl Print,
     record: &[u8],
     edition: Edition,
     listed: &mut [u16; 8192],
@@ -107,25 +119,25 @@ fn answer_record(
     out: &mut [u8; 196608],
 ) -> bool {
     let named = record_reply::put_edition(edition, out);
-    if !write(out, named) {
+    if !write(stdout, out, named) {
         return false;
     }
     let n = record_reply::reply(record, edition, listed, strict, out);
-    write(out, n)
+    write(stdout, out, n)
 }
 
 // `HALF FULL TEXT`.
-fn answer_sent(line: &[u8], out: &mut [u8; 196608]) -> bool {
+fn answer_sent(stdout: &impl Print, line: &[u8], out: &mut [u8; 196608]) -> bool {
     let second = fields::inner::after(line, 0, b' ');
     let third = fields::inner::after(line, second, b' ');
     let half = counters::at(line, 0);
     let full = counters::at(line, second);
     if half > 65535 {
-        return refused(out);
+        return refused(stdout, out);
     }
     if full > 65535 {
-        return refused(out);
+        return refused(stdout, out);
     }
     let n = record_reply::send(&line[third..], half as u16, full as u16, out);
-    write(out, n)
+    write(stdout, out, n)
 }

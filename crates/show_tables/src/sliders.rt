@@ -1,9 +1,9 @@
 // Reads occupied sets, one a line as sixteen hexadecimal digits, and prints what the sliders reach from each square, in the form of the oracle's
 // `ported sliders`.
-ghost use Rattle.std.specs.Prelude.{◌<◌};
+ghost use Rattle.std.specs.Prelude.{◌<◌, ◌≤◌};
 
 use super::end_with;
-use libc::{STDERR_FILENO, STDIN_FILENO, STDOUT_FILENO};
+use std::io::{Input, Read};
 
 // A set, the end of the input, or a line of another form.
 #[derive(Drop)]
@@ -14,27 +14,27 @@ enum Line {
 }
 
 // No input uses the turns up. A line of another form ends them.
-pub(super) fn show_all() {
+pub(super) fn show_all(rt: &(impl Input + Print + Eprint)) {
     let mut line = [0u8; 17];
     for _ in 0..u64::MAX {
-        let l = next(&mut line);
+        let l = next(rt, &mut line);
         match l {
             Line::End => {
                 return;
             }
             Line::Malformed => {
-                io::write_all(STDERR_FILENO, b"show_tables: a line is no set\n");
+                let _ = eprintln!(rt; "show_tables: a line is no set");
                 return;
             }
             Line::Set(occ) => {
-                show_set(occ);
+                show_set(rt, occ);
             }
         }
     }
 }
 
-fn next(line: &mut [u8; 17]) -> Line {
-    let n = io::read_full(STDIN_FILENO, line);
+fn next(stdin: &impl Input, line: &mut [u8; 17]) -> Line {
+    let n = read_full(stdin, line);
     if n == 0 {
         return Line::End;
     }
@@ -42,6 +42,24 @@ fn next(line: &mut [u8; 17]) -> Line {
         return Line::Malformed;
     }
     set_of(line)
+}
+
+// Reads until the line is full, the input ends or a read fails, and answers how many bytes came.
+fn read_full(stdin: &impl Input, line: &mut [u8; 17]) -> usize
+    ensures { result ≤ 17 }
+{
+    let mut reader = stdin.reader();
+    let mut n = 0;
+    while n < 17 {
+        let Ok(more) = reader.read(&mut line[n..]) else {
+            return n;
+        };
+        if more == 0 {
+            return n;
+        }
+        n += more;
+    }
+    n
 }
 
 fn set_of(line: &[u8; 17]) -> Line {
@@ -59,30 +77,39 @@ fn set_of(line: &[u8; 17]) -> Line {
     Line::Set(set)
 }
 
-fn show_set(occ: u64) {
+fn show_set(out: &impl Print, occ: u64) {
     for sq in 0u8..64 {
-        show_square(sq, occ);
+        show_square(out, sq, occ);
     }
 }
 
-fn show_square(sq: u8, occ: u64)
+fn show_square(out: &impl Print, sq: u8, occ: u64)
     requires { sq < 64 }
 {
-    show(b"rook ", sq, occ, sliding::inner::get_rook_moves(sq, occ));
     show(
-        b"bishop ",
+        out,
+        "rook ",
+        sq,
+        occ,
+        sliding::inner::get_rook_moves(sq, occ),
+    );
+    show(
+        out,
+        "bishop ",
         sq,
         occ,
         sliding::inner::get_bishop_moves(sq, occ),
     );
-    show(b"queen ", sq, occ, sliding::inner::get_queen_moves(sq, occ));
+    show(
+        out,
+        "queen ",
+        sq,
+        occ,
+        sliding::inner::get_queen_moves(sq, occ),
+    );
 }
 
-fn show(name: &[u8], sq: u8, occ: u64, set: u64) {
-    io::write_all(STDOUT_FILENO, name);
-    io::print_decimal(STDOUT_FILENO, sq as u64);
-    io::write_all(STDOUT_FILENO, b" ");
-    io::print_hex(STDOUT_FILENO, occ, 16);
-    io::write_all(STDOUT_FILENO, b" ");
-    end_with(set);
+fn show(out: &impl Print, name: &str, sq: u8, occ: u64, set: u64) {
+    let _ = print!(out; "{name}{sq} {occ:016x} ");
+    end_with(out, set);
 }

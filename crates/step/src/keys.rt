@@ -4,20 +4,19 @@ ghost use Rattle.std.specs.Prelude.{◌≤◌, ◌<◌};
 use super::presses;
 use super::presses::Press;
 use input::Cursor;
-use libc::STDIN_FILENO;
+use std::io::{Input, Read};
 
 // A key that is read already, or else the first of the next read.
-pub(super) fn next(chunk: &mut [u8; 65536], c: Cursor) -> Press {
+pub(super) fn next(rt: &(impl Input + Eprint), chunk: &mut [u8; 65536], c: Cursor) -> Press {
     let at = c.at;
     let end = c.end;
     if at < end {
         return key(chunk, at, end);
     }
-    let got = libc::read(STDIN_FILENO, chunk);
-    if got < 0 {
-        return presses::failed();
-    }
-    let n = io::count(got, chunk);
+    let mut reader = rt.reader();
+    let Ok(n) = reader.read(chunk) else {
+        return presses::failed(rt);
+    };
     key(chunk, 0, n)
 }
 

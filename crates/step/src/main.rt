@@ -1,17 +1,21 @@
 // The stepping screen: shows the board of a text, and one of its last moves for each press. The text is the argument; without one, texts are
 // lines of standard input, each with its presses behind it.
-ghost use Rattle.std.specs.Prelude.{◌≤◌};
+#![tactic(auto)]
+
+ghost use Rattle.std.specs.Prelude.{◌≤◌, IfSome};
 ghost use Rattle.geometry.specs.Lines.{IsBetween};
 ghost use Rattle.io.specs.Counts.{IsPrefixLen};
 
 use input::{Cursor, Step};
 use laws::Edition;
-use libc::{STDERR_FILENO, STDIN_FILENO, STDOUT_FILENO};
 use presses::Press;
 use refusal::{Refusal, Verdict};
 use retraction_gen::{Next, RetractionGen};
 use screen::Screen;
 use slots::Listed;
+use std::env::FillError;
+use std::io::{Input, IsTerminal};
+use std::rt::Env;
 
 mod keys; // keys.rt: the keys of a terminal
 mod presses; // presses.rt: the presses that standard input brings
@@ -33,17 +37,17 @@ struct Left {
     is_over: bool,
 }
 
-fn main() {
+fn main(rt: HostRuntime) {
     let t = tables::between_table();
     let mut chunk = io::large_buffer();
     let mut line = io::large_buffer();
     let mut strict = [0u16; 8192];
     let mut out = [0u8; 196608];
     let start = input::start();
-    if os::arg_count() > 1 {
-        let len = os::arg(1, &mut line);
-        let by_key = libc::isatty(STDIN_FILENO) == 1;
+    if let Some(len) = argument(&rt, &mut line) {
+        let by_key = rt.stdin().is_terminal();
         show(
+            &rt,
             &t,
             by_key,
             len,
@@ -55,11 +59,23 @@ fn main() {
         );
         return;
     }
-    show_all(&t, start, &mut chunk, &mut line, &mut strict, &mut out);
+    show_all(&rt, &t, start, &mut chunk, &mut line, &mut strict, &mut out);
+}
+
+// How many bytes of the first argument are in `line`, if there is one: none of one that is longer.
+fn argument(env: &impl Env, line: &mut [u8; 65536]) -> Option<usize>
+    ensures { IfSome result (λ n. n ≤ 65536) }
+{
+    match env.arg(1, line) {
+        Ok(len) => Some(len),
+        Err(FillError::TooLong) => Some(0),
+        Err(FillError::NotPresent) => None,
+    }
 }
 
 // Each text of standard input, which does not use the turns up. `t` is the table of squares between, lent.
 fn show_all(
+    rt: &(impl Input + Print + Eprint),
     t: &[u64; 4096],
     start: Cursor,
     chunk: &mut [u8; 65536],
@@ -71,17 +87,17 @@ fn show_all(
 {
     let mut c = start;
     for _ in 0..u64::MAX {
-        let s = input::next(chunk, line, c);
+        let s = input::next(rt, chunk, line, c);
         match s {
             Step::End => {
                 return;
             }
             Step::Failed => {
-                presses::failed();
+                presses::failed(rt);
                 return;
             }
             Step::Line { len, long: _, next } => {
-                let left = show(t, false, len, next, chunk, line, strict, out);
+                let left = show(rt, t, false, len, next, chunk, line, strict, out);
                 if left.is_over {
                     return;
                 }
@@ -93,6 +109,7 @@ fn show_all(
 
 // The text in the first `len` bytes of `line`, and its presses.
 fn show(
+    rt: &(impl Input + Print + Eprint),
     t: &[u64; 4096],
     by_key: bool,
     len: usize,
@@ -105,7 +122,7 @@ fn show(
     requires { IsBetween t.now × (len ≤ 65536) }
 {
     let text: &[u8] = line;
-    let o = open(t, &text[..len], strict, out);
+    let o = open(rt, t, &text[..len], strict, out);
     let is_over = !o.is_written;
     if is_over | !o.is_open {
         return Left { unread, is_over };
@@ -113,11 +130,17 @@ fn show(
     let screen = o.screen;
     let n = o.strict;
     let slots: &[u16] = strict;
-    step_through(t, by_key, screen, unread, chunk, line, &slots[..n], out)
+    step_through(rt, t, by_key, screen, unread, chunk, line, &slots[..n], out)
 }
 
 // The board of a text, its cursor and its strict list: refusals 14, 1 to 6, 8, 13. The opening or the refusal is written.
-fn open(t: &[u64; 4096], text: &[u8], strict: &mut [u16; 8192], out: &mut [u8; 196608]) -> Opened
+fn open(
+    rt: &(impl Print + Eprint),
+    t: &[u64; 4096],
+    text: &[u8],
+    strict: &mut [u16; 8192],
+    out: &mut [u8; 196608],
+) -> Opened
     requires { IsBetween t.now }
     ensures { result.strict ≤ 8192 }
 {
@@ -135,8 +158,8 @@ fn open(t: &[u64; 4096], text: &[u8], strict: &mut [u16; 8192], out: &mut [u8; 1
     let made = m.verdict;
     let v = first_of(read, made);
     match v {
-        Verdict::Refused(why) => closed(screen, why, out),
-        Verdict::Accepted => listed(t, screen, strict, out),
+        Verdict::Refused(why) => closed(rt, screen, why, out),
+        Verdict::Accepted => listed(rt, t, screen, strict, out),
     }
 }
 
@@ -147,11 +170,16 @@ fn first_of(a: Verdict, b: Verdict) -> Verdict {
     }
 }
 
-fn closed(screen: Screen, why: Refusal, out: &mut [u8; 196608]) -> Opened
+fn closed(
+    rt: &(impl Print + Eprint),
+    screen: Screen,
+    why: Refusal,
+    out: &mut [u8; 196608],
+) -> Opened
     ensures { result.strict ≤ 8192 }
 {
     let n = reply::put_refused(why, out);
-    let is_written = write(out, n);
+    let is_written = write(rt, out, n);
     Opened {
         screen,
         strict: 0,
@@ -161,6 +189,7 @@ fn closed(screen: Screen, why: Refusal, out: &mut [u8; 196608]) -> Opened
 }
 
 fn listed(
+    rt: &(impl Print + Eprint),
     t: &[u64; 4096],
     screen: Screen,
     strict: &mut [u16; 8192],
@@ -174,7 +203,7 @@ fn listed(
     match l {
         Listed::Count(strict) => {
             let n = screen::opening(board, out);
-            let is_written = write(out, n);
+            let is_written = write(rt, out, n);
             Opened {
                 screen,
                 strict,
@@ -182,13 +211,14 @@ fn listed(
                 is_written,
             }
         }
-        Listed::Room(_) => closed(screen, Refusal::Room, out),
-        Listed::Refused(why) => closed(screen, why, out),
+        Listed::Room(_) => closed(rt, screen, Refusal::Room, out),
+        Listed::Refused(why) => closed(rt, screen, why, out),
     }
 }
 
 // A press after the other, up to the end of the list or to `q`.
 fn step_through(
+    rt: &(impl Input + Print + Eprint),
     t: &[u64; 4096],
     by_key: bool,
     start: Screen,
@@ -203,7 +233,7 @@ fn step_through(
     let mut s = start;
     let mut c = unread;
     for _ in 0..u64::MAX {
-        let p = presses::next(by_key, chunk, line, c);
+        let p = presses::next(rt, by_key, chunk, line, c);
         let Press::Key(byte, next) = p else {
             return left_at(c, true);
         };
@@ -211,7 +241,7 @@ fn step_through(
             return left_at(next, false);
         }
         let z = screen::inner::press(t, s, strict, out);
-        if !write(out, z.size) {
+        if !write(rt, out, z.size) {
             return left_at(next, true);
         }
         let answer = z.next;
@@ -236,13 +266,13 @@ fn is_end(answer: Next) -> bool {
 }
 
 // The first n bytes, in one write; false where they cannot be written.
-fn write(out: &[u8; 196608], n: usize) -> bool
+fn write(rt: &(impl Print + Eprint), out: &[u8; 196608], n: usize) -> bool
     requires { IsPrefixLen n out.now }
 {
     let text: &[u8] = out;
-    if io::write_all(STDOUT_FILENO, &text[..n]) {
+    if rt.write_all(&text[..n]).is_ok() {
         return true;
     }
-    io::write_all(STDERR_FILENO, b"step: the output cannot be written\n");
+    let _ = eprintln!(rt; "step: the output cannot be written");
     false
 }

@@ -1,7 +1,7 @@
 // The presses that standard input brings: on a terminal each key is one, elsewhere each line.
 use super::keys;
 use input::{Cursor, Step};
-use libc::STDERR_FILENO;
+use std::io::Input;
 
 // A press by its first byte, 0 for an empty line, and what is unread behind it; or no more.
 #[derive(Drop)]
@@ -11,24 +11,25 @@ pub enum Press {
 }
 
 pub(super) fn next(
+    rt: &(impl Input + Eprint),
     by_key: bool,
     chunk: &mut [u8; 65536],
     line: &mut [u8; 65536],
     c: Cursor,
 ) -> Press {
     if by_key {
-        return keys::next(chunk, c);
+        return keys::next(rt, chunk, c);
     }
-    let s = input::next(chunk, line, c);
+    let s = input::next(rt, chunk, line, c);
     match s {
         Step::Line { len, long: _, next } => Press::Key(first(line, len), next),
         Step::End => Press::Over,
-        Step::Failed => failed(),
+        Step::Failed => failed(rt),
     }
 }
 
-pub(super) fn failed() -> Press {
-    io::write_all(STDERR_FILENO, b"step: the input cannot be read\n");
+pub(super) fn failed(stderr: &impl Eprint) -> Press {
+    let _ = eprintln!(stderr; "step: the input cannot be read");
     Press::Over
 }
 

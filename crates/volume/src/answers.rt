@@ -3,7 +3,8 @@ ghost use Rattle.std.specs.Prelude.{◌≤◌};
 
 use super::sink;
 use super::sink::Sink;
-use libc::{STDERR_FILENO, STDOUT_FILENO};
+use std::io;
+use std::io::Write;
 use volume_contents::{Flaw, Why};
 
 #[derive(Drop)]
@@ -18,59 +19,67 @@ pub enum Answer {
     Unwritten,
 }
 
-// `input` and `other` are the names of the file that was read and of what stood behind it; `of_lines` where a place in the file is a line.
-pub(super) fn tell(a: Answer, of_lines: bool, input: &[u8], other: &[u8], out: &mut [u8; 65536]) {
+// `stderr` takes a name whose bytes are no text. `input` and `other` are the names of the file that was read and of what stood behind it; `of_lines` where a place in the file is a line.
+pub(super) fn tell(
+    rt: &(impl Print + Eprint),
+    stderr: &impl Print,
+    a: Answer,
+    of_lines: bool,
+    input: &[u8],
+    other: &[u8],
+    out: &mut [u8; 65536],
+) {
     match a {
-        Answer::Problems(n) => say_problems(out, n),
-        Answer::Refused(w) => say_refused(out, w, of_lines),
+        Answer::Problems(n) => say_problems(rt, out, n),
+        Answer::Refused(w) => say_refused(rt, out, w, of_lines),
         Answer::Absent => {
-            let s = sink::put(out, sink::open(STDOUT_FILENO), b"absent\n");
-            say(out, s);
+            let s = sink::put(out, sink::open(io::writer(rt)), b"absent\n");
+            say(rt, out, s);
         }
         Answer::Shown => {}
-        Answer::NoNumber => fail(other, b" is no number\n"),
-        Answer::Unread => fail(input, b" cannot be read\n"),
-        Answer::Changed => fail(input, b" has changed\n"),
-        Answer::Unwritten => fail(other, b" cannot be written\n"),
+        Answer::NoNumber => fail(stderr, other, b" is no number\n"),
+        Answer::Unread => fail(stderr, input, b" cannot be read\n"),
+        Answer::Changed => fail(stderr, input, b" has changed\n"),
+        Answer::Unwritten => fail(stderr, other, b" cannot be written\n"),
     }
 }
 
-fn fail(name: &[u8], what: &[u8]) {
-    io::write_all(STDERR_FILENO, b"volume: ");
-    io::write_all(STDERR_FILENO, name);
-    io::write_all(STDERR_FILENO, what);
+fn fail(stderr: &impl Print, name: &[u8], what: &[u8]) {
+    let _ = stderr.write_all(b"volume: ");
+    let _ = stderr.write_all(name);
+    let _ = stderr.write_all(what);
 }
 
 // One write.
-pub(super) fn say(out: &mut [u8; 65536], s: Sink)
+pub(super) fn say<W: Write + Drop>(stderr: &impl Eprint, out: &mut [u8; 65536], s: Sink<W>)
     requires { s.len ≤ 65536 }
 {
     let done = sink::flush(out, s);
     if !done.is_good {
-        io::write_all(STDERR_FILENO, b"volume: the output cannot be written\n");
+        let _ = eprintln!(stderr; "volume: the output cannot be written");
     }
 }
 
-fn say_problems(out: &mut [u8; 65536], n: u16) {
-    let a = sink::put_number(out, sink::open(STDOUT_FILENO), n as usize);
+fn say_problems(rt: &(impl Print + Eprint), out: &mut [u8; 65536], n: u16) {
+    let a = sink::put_number(out, sink::open(io::writer(rt)), n as usize);
     if n == 1 {
         let b = sink::put(out, a, b" problem\n");
-        say(out, b);
+        say(rt, out, b);
         return;
     }
     let b = sink::put(out, a, b" problems\n");
-    say(out, b);
+    say(rt, out, b);
 }
 
-fn say_refused(out: &mut [u8; 65536], why: Why, of_lines: bool) {
-    let a = sink::put(out, sink::open(STDOUT_FILENO), b"refused ");
+fn say_refused(rt: &(impl Print + Eprint), out: &mut [u8; 65536], why: Why, of_lines: bool) {
+    let a = sink::put(out, sink::open(io::writer(rt)), b"refused ");
     let b = sink::put_number(out, a, volume_contents::number(why) as usize);
     let c = put_why(out, b, why, of_lines);
     let d = sink::put(out, c, b"\n");
-    say(out, d);
+    say(rt, out, d);
 }
 
-fn put_why(out: &mut [u8; 65536], s: Sink, why: Why, of_lines: bool) -> Sink
+fn put_why<W: Write>(out: &mut [u8; 65536], s: Sink<W>, why: Why, of_lines: bool) -> Sink<W>
     requires { s.len ≤ 65536 }
     ensures { result.len ≤ 65536 }
 {
@@ -88,7 +97,7 @@ fn put_why(out: &mut [u8; 65536], s: Sink, why: Why, of_lines: bool) -> Sink
 }
 
 // The head is at no place.
-fn put_place(out: &mut [u8; 65536], s: Sink, k: usize, of_lines: bool) -> Sink
+fn put_place<W: Write>(out: &mut [u8; 65536], s: Sink<W>, k: usize, of_lines: bool) -> Sink<W>
     requires { s.len ≤ 65536 }
     ensures { result.len ≤ 65536 }
 {
@@ -103,7 +112,7 @@ fn put_place(out: &mut [u8; 65536], s: Sink, k: usize, of_lines: bool) -> Sink
     sink::put_number(out, a, k)
 }
 
-fn put_flaw(out: &mut [u8; 65536], s: Sink, f: Flaw) -> Sink
+fn put_flaw<W: Write>(out: &mut [u8; 65536], s: Sink<W>, f: Flaw) -> Sink<W>
     requires { s.len ≤ 65536 }
     ensures { result.len ≤ 65536 }
 {

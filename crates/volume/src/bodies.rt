@@ -7,6 +7,7 @@ use super::file::File;
 use super::{clock, file};
 use position_text::{Form, Raw};
 use refusal::Verdict;
+use std::time;
 use volume_contents::Why;
 
 // What a pass over a file came to, and the clock behind it.
@@ -53,20 +54,21 @@ pub(super) fn is_sound(raw: Raw) -> bool {
 
 // 18 and 1 to 6 of the n bodies of a volume, each in the edition of its row.
 pub(super) fn judge_all(
-    f: File,
+    rt: &(impl time::Clock + Eprint),
+    f: &File,
     n: u16,
     rows: &mut [u8; 65536],
     bodies: &mut [u8; 65536],
     start: Clock,
 ) -> Passed {
     let mut clock = start;
-    let fd = f.fd;
+    let file = &f.file;
     let all = n as usize;
     let mut i = 0;
     while i < all {
         let k = file::least(all - i, 1024);
-        if !file::fill(fd, 6 + 8 * i, rows, 8 * k)
-            | !file::fill(fd, 6 + 8 * all + 34 * i, bodies, 34 * k)
+        if !file::fill(file, 6 + 8 * i, rows, 8 * k)
+            | !file::fill(file, 6 + 8 * all + 34 * i, bodies, 34 * k)
         {
             return pass(file::lacking(f), clock);
         }
@@ -78,7 +80,7 @@ pub(super) fn judge_all(
             Judged::Accepted => {}
         }
         i += k;
-        clock = clock::tick(clock, i);
+        clock = clock::tick(rt, clock, i);
     }
     pass(Answer::Problems(n), clock)
 }

@@ -3,14 +3,22 @@ use super::answers::Answer;
 use super::bodies::Passed;
 use super::file::{File, Opened};
 use super::{bodies, clock, file, table};
+use std::rt::Files;
+use std::{fs, time};
 
-pub(super) fn check(input: &[u8], rows: &mut [u8; 65536], boards: &mut [u8; 65536]) -> Answer {
-    let o = file::open(input);
+pub(super) fn check(
+    rt: &(impl Files<File = fs::File> + time::Clock + Eprint),
+    on_terminal: bool,
+    input: &[u8],
+    rows: &mut [u8; 65536],
+    boards: &mut [u8; 65536],
+) -> Answer {
+    let o = file::open(rt, input);
     match o {
         Opened::Unread => Answer::Unread,
         Opened::Open(f) => {
-            let p = judge(f, false, rows, boards);
-            clock::stop(p.clock);
+            let p = judge(rt, on_terminal, &f, false, rows, boards);
+            clock::stop(rt, p.clock);
             p.answer
         }
     }
@@ -18,19 +26,21 @@ pub(super) fn check(input: &[u8], rows: &mut [u8; 65536], boards: &mut [u8; 6553
 
 // `back` is on the way to lines, and this the first pass.
 pub(super) fn judge(
-    f: File,
+    rt: &(impl time::Clock + Eprint),
+    on_terminal: bool,
+    f: &File,
     back: bool,
     rows: &mut [u8; 65536],
     boards: &mut [u8; 65536],
 ) -> Passed {
-    let clock = clock::start();
+    let clock = clock::start(rt, on_terminal);
     let h = table::head(f, rows);
     match h {
         Answer::Problems(n) => {
             let t = table::walk(f, n, back, 0, rows);
             let a = t.answer;
             match a {
-                Answer::Problems(_) => bodies::judge_all(f, n, rows, boards, clock),
+                Answer::Problems(_) => bodies::judge_all(rt, f, n, rows, boards, clock),
                 _ => bodies::pass(a, clock),
             }
         }

@@ -1,35 +1,34 @@
 // A sign of progress on standard error, where that is a terminal and the work takes more than two seconds.
-use libc::STDERR_FILENO;
+use std::time;
 
-// The second that it was at the last look, and how many of them were seen to begin, up to three.
+// The second that it was at the last look, where the system told it, and how many of them were seen to begin, up to three.
 #[derive(Drop)]
 pub struct Clock {
-    pub second: i64,
+    pub second: Option<u64>,
     pub begun: u8,
     pub is_on: bool,
     pub is_shown: bool,
 }
 
-pub(super) fn start() -> Clock {
+pub(super) fn start(time: &impl time::Clock, is_on: bool) -> Clock {
     Clock {
-        second: now(),
+        second: now(time),
         begun: 0,
-        is_on: libc::isatty(STDERR_FILENO) == 1,
+        is_on,
         is_shown: false,
     }
 }
 
-fn now() -> i64 {
-    let mut t = 0i64;
-    libc::time(&mut t)
+fn now(time: &impl time::Clock) -> Option<u64> {
+    Some(time.since_1970().ok()?.as_secs())
 }
 
 // So many problems are done. At most one sign a second, and none before the third second begins.
-pub(super) fn tick(c: Clock, problems: usize) -> Clock {
+pub(super) fn tick(rt: &(impl time::Clock + Eprint), c: Clock, problems: usize) -> Clock {
     if !c.is_on {
         return c;
     }
-    let second = now();
+    let second = now(rt);
     let before = c.second;
     if second == before {
         return c;
@@ -42,9 +41,7 @@ pub(super) fn tick(c: Clock, problems: usize) -> Clock {
             is_shown: false,
         };
     }
-    io::write_all(STDERR_FILENO, b"\rvolume: ");
-    io::print_decimal(STDERR_FILENO, problems as u64);
-    io::write_all(STDERR_FILENO, b" problems");
+    let _ = eprint!(rt; "\rvolume: {problems} problems");
     Clock {
         second,
         begun: 2,
@@ -54,8 +51,8 @@ pub(super) fn tick(c: Clock, problems: usize) -> Clock {
 }
 
 // The sign goes.
-pub(super) fn stop(c: Clock) {
+pub(super) fn stop(stderr: &impl Eprint, c: Clock) {
     if c.is_shown {
-        io::write_all(STDERR_FILENO, b"\r\x1b[K");
+        let _ = eprint!(stderr; "\r\x1b[K");
     }
 }

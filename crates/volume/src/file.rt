@@ -2,12 +2,15 @@
 ghost use Rattle.std.specs.Prelude.{◌≡◌, ◌≤◌, min, length};
 
 use super::answers::Answer;
-use libc::SEEK_END;
+use std::io::{Seek, SeekFrom};
+use std::os::unix::fs::FileExt;
+use std::rt::Files;
+use std::{fs, str};
 
 // A file of `size` bytes.
-#[derive(Clone, Copy)]
+#[derive(Drop)]
 pub struct File {
-    pub fd: i32,
+    pub file: fs::File,
     pub size: usize,
 }
 
@@ -17,47 +20,46 @@ pub enum Opened {
     Unread,
 }
 
-// A file that is more than regular, as a device or a pipe, has no size, or bytes behind it.
-pub(super) fn open(path: &[u8]) -> Opened {
-    let fd = os::open_read(path);
-    if fd < 0 {
+// A file that is more than regular, as a device or a pipe, has no size, or bytes behind it. A path is text.
+pub(super) fn open(files: &impl Files<File = fs::File>, path: &[u8]) -> Opened {
+    let Ok(path) = str::from_utf8(path) else {
         return Opened::Unread;
-    }
-    let end = libc::lseek(fd, 0, SEEK_END);
-    if end < 0 {
+    };
+    let Ok(mut file) = fs::File::open(files, path) else {
         return Opened::Unread;
-    }
+    };
+    let Ok(end) = file.seek(SeekFrom::End(0)) else {
+        return Opened::Unread;
+    };
     let f = File {
-        fd,
+        file,
         size: end as usize,
     };
-    if !is_whole(f) {
+    if !is_whole(&f) {
         return Opened::Unread;
     }
     Opened::Open(f)
 }
 
 // Whether nothing stands behind the file's size.
-pub(super) fn is_whole(f: File) -> bool {
-    let fd = f.fd;
-    byte_at(fd, f.size) == 0
+pub(super) fn is_whole(f: &File) -> bool {
+    byte_at(&f.file, f.size) == Some(0)
 }
 
-// How many bytes a read of one byte brings, 0 behind the end of the file; it is below 0 where it fails.
-fn byte_at(fd: i32, at: usize) -> isize {
+// How many bytes a read of one byte brings, 0 behind the end of the file; none where it fails.
+fn byte_at(file: &fs::File, at: usize) -> Option<usize> {
     if at > 4611686018427387904 {
-        return -1;
+        return None;
     }
     let mut one = [0u8; 1];
-    libc::pread(fd, &mut one, at as i64)
+    file.read_at(&mut one, at as u64).ok()
 }
 
 // Why bytes inside the file's size do not come: it is shorter by now, or cannot be read.
-pub(super) fn lacking(f: File) -> Answer {
-    let fd = f.fd;
+pub(super) fn lacking(f: &File) -> Answer {
     let size = f.size;
     if size > 0 {
-        if byte_at(fd, size - 1) == 0 {
+        if byte_at(&f.file, size - 1) == Some(0) {
             return Answer::Changed;
         }
     }
@@ -65,7 +67,7 @@ pub(super) fn lacking(f: File) -> Answer {
 }
 
 // The answer of a second pass that met so many problems again, n having been there before.
-pub(super) fn same_as(f: File, n: u16, count: usize) -> Answer {
+pub(super) fn same_as(f: &File, n: u16, count: usize) -> Answer {
     if (count == n as usize) & is_whole(f) {
         return Answer::Problems(n);
     }
@@ -73,22 +75,13 @@ pub(super) fn same_as(f: File, n: u16, count: usize) -> Answer {
 }
 
 // Reads n bytes from the place `at` on.
-pub(super) fn fill(fd: i32, at: usize, chunk: &mut [u8], n: usize) -> bool
+pub(super) fn fill(file: &fs::File, at: usize, chunk: &mut [u8], n: usize) -> bool
     requires { (n ≤ length chunk.old) × (n ≤ 65536) }
 {
     if at > 4611686018427387904 {
         return false;
     }
-    let mut have = 0;
-    while have < n {
-        let got = libc::pread(fd, &mut chunk[have..n], (at + have) as i64);
-        let more = io::count(got, &chunk[have..n]);
-        if more == 0 {
-            return false;
-        }
-        have += more;
-    }
-    true
+    file.read_exact_at(&mut chunk[..n], at as u64).is_ok()
 }
 
 pub(super) fn least(a: usize, b: usize) -> usize

@@ -7,27 +7,30 @@ use super::file::File;
 use super::sink::{Poured, Sink};
 use super::{bodies, clock, file, sink};
 use laws::Edition;
+use std::io::Write;
+use std::time;
 
 // The second pass. The bodies are read again, and have to be what they were.
-pub(super) fn put_all(
-    f: File,
+pub(super) fn put_all<W: Write + Drop>(
+    rt: &(impl time::Clock + Eprint),
+    f: &File,
     n: u16,
     chunk: &mut [u8; 65536],
     out: &mut [u8; 65536],
-    before: Sink,
+    before: Sink<W>,
     start: Clock,
-) -> Poured
+) -> Poured<W>
     requires { before.len ≤ 65536 }
     ensures { result.sink.len ≤ 65536 }
 {
     let mut sink = before;
     let mut clock = start;
-    let fd = f.fd;
+    let file = &f.file;
     let all = n as usize;
     let mut i = 0;
     while i < all {
         let k = file::least(all - i, 1024);
-        if !file::fill(fd, 6 + 8 * all + 34 * i, chunk, 34 * k) {
+        if !file::fill(file, 6 + 8 * all + 34 * i, chunk, 34 * k) {
             return sink::pour(file::lacking(f), sink, clock);
         }
         let t = put_some(chunk, k, out, sink);
@@ -36,20 +39,25 @@ pub(super) fn put_all(
             return sink::pour(Answer::Changed, sink, clock);
         }
         i += k;
-        clock = clock::tick(clock, i);
+        clock = clock::tick(rt, clock, i);
     }
     sink::pour(file::same_as(f, n, i), sink, clock)
 }
 
 // Bodies whose lines are written.
 #[derive(Drop)]
-struct Taken {
+struct Taken<W> {
     count: usize,
-    sink: Sink,
+    sink: Sink<W>,
 }
 
 // The lines of k bodies, up to the first that is refused.
-fn put_some(bodies: &[u8; 65536], k: usize, out: &mut [u8; 65536], before: Sink) -> Taken
+fn put_some<W: Write>(
+    bodies: &[u8; 65536],
+    k: usize,
+    out: &mut [u8; 65536],
+    before: Sink<W>,
+) -> Taken<W>
     requires { (k ≤ 1024) × (before.len ≤ 65536) }
     ensures { result.sink.len ≤ 65536 }
 {

@@ -4,7 +4,9 @@
 //   show VOLUME N             the edition and the text of one problem
 //   check VOLUME              a volume's contents, bodies and boards
 // docs/VOLUME.md has the layout and the refusals, in their order. PART is a name beside the file that is written, which takes its place when it is whole.
-use libc::STDERR_FILENO;
+#![tactic(auto)]
+
+ghost use Rattle.std.specs.Prelude.{◌≤◌};
 
 mod answers; // answers.rt: what a call comes to, in writing
 mod bodies; // bodies.rt: the boards of lines and bodies, judged
@@ -18,6 +20,11 @@ mod show; // show.rt: one problem
 mod sink; // sink.rt: the file that is written
 mod table; // table.rt: a volume's head and table of contents
 
+use std::env::FillError;
+use std::io::IsTerminal;
+use std::rt::{Env, Files};
+use std::{fs, time};
+
 // What is asked.
 #[derive(Drop)]
 enum Task {
@@ -28,19 +35,22 @@ enum Task {
     Nothing,
 }
 
-fn main() {
+fn main(rt: HostRuntime) {
     let mut verb = io::buffer();
     let mut first = io::buffer();
     let mut second = io::buffer();
     let mut third = io::buffer();
     let mut chunk = io::large_buffer();
     let mut out = io::large_buffer();
-    let v = os::arg(1, &mut verb);
-    let a = os::arg(2, &mut first);
-    let b = os::arg(3, &mut second);
-    let c = os::arg(4, &mut third);
-    let task = task_of(&verb[..v], os::arg_count());
+    let v = argument(&rt, 1, &mut verb);
+    let a = argument(&rt, 2, &mut first);
+    let b = argument(&rt, 3, &mut second);
+    let c = argument(&rt, 4, &mut third);
+    let task = task_of(&verb[..v], words(&rt));
+    let stderr = rt.stderr();
     run(
+        &rt,
+        &stderr,
         task,
         &first[..a],
         &second[..b],
@@ -48,6 +58,27 @@ fn main() {
         &mut chunk,
         &mut out,
     );
+}
+
+// How many bytes of an argument are in `buffer`: none of one that is missing or longer.
+fn argument(env: &impl Env, i: usize, buffer: &mut [u8; 4096]) -> usize
+    ensures { result ≤ 4096 }
+{
+    match env.arg(i, buffer) {
+        Ok(n) => n,
+        Err(_) => 0,
+    }
+}
+
+// How many words the call has, the program's name among them; no task has six.
+fn words(env: &impl Env) -> usize {
+    let mut word = io::buffer();
+    for i in 0..6 {
+        if let Err(FillError::NotPresent) = env.arg(i, &mut word) {
+            return i;
+        }
+    }
+    6
 }
 
 // The task of a verb with so many words, the program's name among them.
@@ -82,6 +113,8 @@ fn is_word(a: &[u8], b: &[u8]) -> bool {
 }
 
 fn run(
+    rt: &(impl Files<File = fs::File> + time::Clock + Print + Eprint),
+    stderr: &(impl Print + IsTerminal),
     task: Task,
     input: &[u8],
     other: &[u8],
@@ -89,27 +122,27 @@ fn run(
     chunk: &mut [u8; 65536],
     out: &mut [u8; 65536],
 ) {
+    let on_terminal = stderr.is_terminal();
     match task {
         Task::Make => {
-            let a = convert::convert(false, input, other, part, chunk, out);
-            answers::tell(a, true, input, other, out);
+            let a = convert::convert(rt, on_terminal, false, input, other, part, chunk, out);
+            answers::tell(rt, stderr, a, true, input, other, out);
         }
         Task::Lines => {
-            let a = convert::convert(true, input, other, part, chunk, out);
-            answers::tell(a, false, input, other, out);
+            let a = convert::convert(rt, on_terminal, true, input, other, part, chunk, out);
+            answers::tell(rt, stderr, a, false, input, other, out);
         }
         Task::Show => {
-            let a = show::show(input, other, chunk, out);
-            answers::tell(a, false, input, other, out);
+            let a = show::show(rt, input, other, chunk, out);
+            answers::tell(rt, stderr, a, false, input, other, out);
         }
         Task::Check => {
-            let a = check::check(input, chunk, out);
-            answers::tell(a, false, input, other, out);
+            let a = check::check(rt, on_terminal, input, chunk, out);
+            answers::tell(rt, stderr, a, false, input, other, out);
         }
         Task::Nothing => {
-            io::write_all(
-                STDERR_FILENO,
-                b"volume: make LINES VOLUME PART, lines VOLUME LINES PART, show VOLUME N or check VOLUME\n",
+            let _ = eprintln!(rt;
+                "volume: make LINES VOLUME PART, lines VOLUME LINES PART, show VOLUME N or check VOLUME"
             );
         }
     }

@@ -9,20 +9,27 @@ use super::sink::{Poured, Sink};
 use super::{bodies, clock, file, sink};
 use laws::Edition;
 use refusal::Verdict;
+use std::io::Write;
+use std::time;
 use volume_contents::{Flaw, Why};
 use volume_lines::Named;
 
 // The first pass: 14 over all lines, then 17, then 1 to 6. Where no line in form starts a chunk, what does is out of form, too long or without its newline.
-pub(super) fn survey(f: File, chunk: &mut [u8; 65536], start: Clock) -> Passed {
+pub(super) fn survey(
+    rt: &(impl time::Clock + Eprint),
+    f: &File,
+    chunk: &mut [u8; 65536],
+    start: Clock,
+) -> Passed {
     let mut clock = start;
-    let fd = f.fd;
+    let file = &f.file;
     let size = f.size;
     let mut named = volume_lines::inner::unrefused();
     let mut count = 0;
     let mut at = 0;
     while at < size {
         let n = file::least(size - at, 65536);
-        if !file::fill(fd, at, chunk, n) {
+        if !file::fill(file, at, chunk, n) {
             return bodies::pass(file::lacking(f), clock);
         }
         let text: &[u8] = chunk;
@@ -34,7 +41,7 @@ pub(super) fn survey(f: File, chunk: &mut [u8; 65536], start: Clock) -> Passed {
         }
         named = s.named;
         at += past;
-        clock = clock::tick(clock, count);
+        clock = clock::tick(rt, clock, count);
     }
     bodies::pass(verdict(count, named), clock)
 }
@@ -51,22 +58,23 @@ fn verdict(count: usize, named: Named) -> Answer {
 }
 
 // The second pass: the head, the rows and the bodies.
-pub(super) fn put_all(
-    f: File,
+pub(super) fn put_all<W: Write + Drop>(
+    rt: &(impl time::Clock + Eprint),
+    f: &File,
     n: u16,
     chunk: &mut [u8; 65536],
     out: &mut [u8; 65536],
-    before: Sink,
+    before: Sink<W>,
     start: Clock,
-) -> Poured
+) -> Poured<W>
     requires { before.len ≤ 65536 }
     ensures { result.sink.len ≤ 65536 }
 {
     let t = put_table(out, before, n as usize);
-    put_bodies(f, n, chunk, out, t, start)
+    put_bodies(rt, f, n, chunk, out, t, start)
 }
 
-fn put_table(out: &mut [u8; 65536], before: Sink, n: usize) -> Sink
+fn put_table<W: Write>(out: &mut [u8; 65536], before: Sink<W>, n: usize) -> Sink<W>
     requires { (before.len ≤ 65536) × (n ≤ 65535) }
     ensures { result.len ≤ 65536 }
 {
@@ -81,26 +89,27 @@ fn put_table(out: &mut [u8; 65536], before: Sink, n: usize) -> Sink
 }
 
 // The lines are read again, and have to be what they were.
-fn put_bodies(
-    f: File,
+fn put_bodies<W: Write + Drop>(
+    rt: &(impl time::Clock + Eprint),
+    f: &File,
     n: u16,
     chunk: &mut [u8; 65536],
     out: &mut [u8; 65536],
-    before: Sink,
+    before: Sink<W>,
     start: Clock,
-) -> Poured
+) -> Poured<W>
     requires { before.len ≤ 65536 }
     ensures { result.sink.len ≤ 65536 }
 {
     let mut sink = before;
     let mut clock = start;
-    let fd = f.fd;
+    let file = &f.file;
     let size = f.size;
     let mut count = 0;
     let mut at = 0;
     while at < size {
         let len = file::least(size - at, 65536);
-        if !file::fill(fd, at, chunk, len) {
+        if !file::fill(file, at, chunk, len) {
             return sink::pour(file::lacking(f), sink, clock);
         }
         let text: &[u8] = chunk;
@@ -112,21 +121,21 @@ fn put_bodies(
         }
         count += t.count;
         at += past;
-        clock = clock::tick(clock, count);
+        clock = clock::tick(rt, clock, count);
     }
     sink::pour(file::same_as(f, n, count), sink, clock)
 }
 
 // Lines whose bodies are written: the place behind them, and how many.
 #[derive(Drop)]
-struct Taken {
+struct Taken<W> {
     at: usize,
     count: usize,
-    sink: Sink,
+    sink: Sink<W>,
 }
 
 // The lines that end in `t`, up to the first that is refused.
-fn put_some(t: &[u8], out: &mut [u8; 65536], before: Sink) -> Taken
+fn put_some<W: Write>(t: &[u8], out: &mut [u8; 65536], before: Sink<W>) -> Taken<W>
     requires { before.len ≤ 65536 }
     ensures { (result.at ≤ length t.now) × (result.count ≤ result.at) × (result.sink.len ≤ 65536) }
 {

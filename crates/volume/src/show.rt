@@ -7,7 +7,9 @@ use super::file::{File, Opened};
 use super::sink::Sink;
 use super::{answers, bodies, file, sink, table};
 use laws::{Edition, Position};
-use libc::STDOUT_FILENO;
+use std::io::Printer;
+use std::rt::Files;
+use std::{fs, io};
 
 // A number in decimal digits.
 #[derive(Drop)]
@@ -17,6 +19,7 @@ enum Parsed {
 }
 
 pub(super) fn show(
+    rt: &(impl Files<File = fs::File> + Print + Eprint),
     input: &[u8],
     name: &[u8],
     chunk: &mut [u8; 65536],
@@ -26,10 +29,10 @@ pub(super) fn show(
     match p {
         Parsed::Nothing => Answer::NoNumber,
         Parsed::Number(number) => {
-            let o = file::open(input);
+            let o = file::open(rt, input);
             match o {
                 Opened::Unread => Answer::Unread,
-                Opened::Open(f) => look_up(f, number, chunk, out),
+                Opened::Open(f) => look_up(rt, &f, number, chunk, out),
             }
         }
     }
@@ -57,7 +60,13 @@ fn parse(name: &[u8]) -> Parsed {
 }
 
 // 17 over the whole table, then whether a row has the number.
-fn look_up(f: File, number: usize, chunk: &mut [u8; 65536], out: &mut [u8; 65536]) -> Answer {
+fn look_up(
+    rt: &(impl Print + Eprint),
+    f: &File,
+    number: usize,
+    chunk: &mut [u8; 65536],
+    out: &mut [u8; 65536],
+) -> Answer {
     let h = table::head(f, chunk);
     match h {
         Answer::Problems(n) => {
@@ -65,7 +74,7 @@ fn look_up(f: File, number: usize, chunk: &mut [u8; 65536], out: &mut [u8; 65536
             let a = t.answer;
             let found = t.found;
             match a {
-                Answer::Problems(_) => show_row(f, n, found.row, found.edition, chunk, out),
+                Answer::Problems(_) => show_row(rt, f, n, found.row, found.edition, chunk, out),
                 _ => a,
             }
         }
@@ -75,7 +84,8 @@ fn look_up(f: File, number: usize, chunk: &mut [u8; 65536], out: &mut [u8; 65536
 
 // 18 and 1 to 6 of the body of a row, counted from 1.
 fn show_row(
-    f: File,
+    rt: &(impl Print + Eprint),
+    f: &File,
     n: u16,
     row: u16,
     edition: u8,
@@ -85,9 +95,9 @@ fn show_row(
     if row == 0 {
         return Answer::Absent;
     }
-    let fd = f.fd;
+    let file = &f.file;
     let i = row as usize - 1;
-    if !file::fill(fd, 6 + 8 * (n as usize) + 34 * i, chunk, 34) {
+    if !file::fill(file, 6 + 8 * (n as usize) + 34 * i, chunk, 34) {
         return file::lacking(f);
     }
     let edition = volume_contents::inner::edition_of(edition);
@@ -98,23 +108,27 @@ fn show_row(
         Judged::Refused(w) => Answer::Refused(w),
         Judged::Accepted => {
             let position = raw.position;
-            print(edition, position, out);
+            print(rt, edition, position, out);
             Answer::Shown
         }
     }
 }
 
-fn print(edition: Edition, position: Position, out: &mut [u8; 65536]) {
-    let a = put_edition(out, edition);
+fn print(rt: &(impl Print + Eprint), edition: Edition, position: Position, out: &mut [u8; 65536]) {
+    let a = put_edition(rt, out, edition);
     let b = sink::put_line(out, a, position_text::inner::line_of(position));
     let c = sink::put(out, b, b"\n");
-    answers::say(out, c);
+    answers::say(rt, out, c);
 }
 
-fn put_edition(out: &mut [u8; 65536], edition: Edition) -> Sink
+fn put_edition<'a, P: Print>(
+    stdout: &'a P,
+    out: &mut [u8; 65536],
+    edition: Edition,
+) -> Sink<Printer<'a, P>>
     ensures { result.len ≤ 65536 }
 {
-    let s = sink::open(STDOUT_FILENO);
+    let s = sink::open(io::writer(stdout));
     match edition {
         Edition::A => sink::put(out, s, b"A "),
         Edition::B => sink::put(out, s, b"B "),

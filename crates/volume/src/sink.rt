@@ -6,24 +6,28 @@ use super::answers::Answer;
 use super::clock;
 use super::clock::Clock;
 use men_field::Line;
+use std::fs::OpenFile;
+use std::io::Write;
+use std::rt::Files;
+use std::{fs, str};
 
 // How many bytes wait, and whether all before them could be written.
 #[derive(Drop)]
-pub struct Sink {
-    pub fd: i32,
+pub struct Sink<W> {
+    pub to: W,
     pub len: usize,
     pub is_good: bool,
 }
 
 // What writing came to, with the bytes that wait, and the clock behind it.
 #[derive(Drop)]
-pub struct Poured {
+pub struct Poured<W> {
     pub answer: Answer,
-    pub sink: Sink,
+    pub sink: Sink<W>,
     pub clock: Clock,
 }
 
-pub(super) fn pour(answer: Answer, sink: Sink, clock: Clock) -> Poured
+pub(super) fn pour<W>(answer: Answer, sink: Sink<W>, clock: Clock) -> Poured<W>
     requires { sink.len ≤ 65536 }
     ensures { result.sink.len ≤ 65536 }
 {
@@ -34,34 +38,37 @@ pub(super) fn pour(answer: Answer, sink: Sink, clock: Clock) -> Poured
     }
 }
 
-pub(super) fn open(fd: i32) -> Sink
+pub(super) fn open<W>(to: W) -> Sink<W>
     ensures { result.len ≡ 0 }
 {
     Sink {
-        fd,
+        to,
         len: 0,
         is_good: true,
     }
 }
 
 // Writes what waits.
-pub(super) fn flush(out: &mut [u8; 65536], s: Sink) -> Sink
+pub(super) fn flush<W: Write>(out: &mut [u8; 65536], s: Sink<W>) -> Sink<W>
     requires { s.len ≤ 65536 }
     ensures { result.len ≡ 0 }
 {
-    let fd = s.fd;
-    let n = s.len;
+    let Sink {
+        mut to,
+        len,
+        is_good,
+    } = s;
     let bytes: &[u8] = out;
-    let is_written = io::write_all(fd, &bytes[..n]);
+    let is_written = to.write_all(&bytes[..len]).is_ok();
     Sink {
-        fd,
+        to,
         len: 0,
-        is_good: is_written & s.is_good,
+        is_good: is_written & is_good,
     }
 }
 
 // Room for 100 bytes.
-fn with_room(out: &mut [u8; 65536], s: Sink) -> Sink
+fn with_room<W: Write>(out: &mut [u8; 65536], s: Sink<W>) -> Sink<W>
     requires { s.len ≤ 65536 }
     ensures { result.len ≤ 65436 }
 {
@@ -71,22 +78,24 @@ fn with_room(out: &mut [u8; 65536], s: Sink) -> Sink
     flush(out, s)
 }
 
-pub(super) fn put(out: &mut [u8; 65536], s: Sink, bytes: &[u8]) -> Sink
+pub(super) fn put<W: Write>(out: &mut [u8; 65536], s: Sink<W>, bytes: &[u8]) -> Sink<W>
     requires { (s.len ≤ 65536) × (length bytes.now ≤ 100) }
     ensures { result.len ≤ 65536 }
 {
-    let t = with_room(out, s);
-    let fd = t.fd;
-    let at = t.len;
+    let Sink {
+        to,
+        len: at,
+        is_good,
+    } = with_room(out, s);
     output::inner::copy(out, at, bytes, 0, bytes.len());
     Sink {
-        fd,
+        to,
         len: at + bytes.len(),
-        is_good: t.is_good,
+        is_good,
     }
 }
 
-pub(super) fn put_line(out: &mut [u8; 65536], s: Sink, l: Line) -> Sink
+pub(super) fn put_line<W: Write>(out: &mut [u8; 65536], s: Sink<W>, l: Line) -> Sink<W>
     requires { (s.len ≤ 65536) × (l.len ≤ 81) }
     ensures { result.len ≤ 65536 }
 {
@@ -95,7 +104,7 @@ pub(super) fn put_line(out: &mut [u8; 65536], s: Sink, l: Line) -> Sink
     put(out, s, &bytes[..n])
 }
 
-pub(super) fn put_number(out: &mut [u8; 65536], s: Sink, n: usize) -> Sink
+pub(super) fn put_number<W: Write>(out: &mut [u8; 65536], s: Sink<W>, n: usize) -> Sink<W>
     requires { s.len ≤ 65536 }
     ensures { result.len ≤ 65536 }
 {
@@ -105,52 +114,60 @@ pub(super) fn put_number(out: &mut [u8; 65536], s: Sink, n: usize) -> Sink
 }
 
 // Ends the file: where all went well it gets its name, and otherwise it goes.
-pub(super) fn end(out: &mut [u8; 65536], p: Poured, part: &[u8], target: &[u8]) -> Answer
+pub(super) fn end(
+    rt: &(impl Files + Eprint),
+    out: &mut [u8; 65536],
+    p: Poured<fs::File>,
+    part: &str,
+    target: &str,
+) -> Answer
     requires { p.sink.len ≤ 65536 }
 {
-    let s = p.sink;
-    let fd = s.fd;
-    let done = flush(out, s);
-    let is_kept = libc::fsync(fd) == 0;
-    let is_closed = libc::close(fd) == 0;
-    let now = p.clock;
-    clock::stop(now);
-    let a = p.answer;
+    let Poured {
+        answer: a,
+        sink,
+        clock,
+    } = p;
+    let Sink { to, is_good, .. } = flush(out, sink);
+    let is_kept = to.sync_all().is_ok();
+    drop(to);
+    clock::stop(rt, clock);
     match a {
         Answer::Problems(_) => {
-            if done.is_good & is_kept & is_closed {
-                if os::rename(part, target) == 0 {
-                    keep_name(target);
+            if is_good & is_kept {
+                if fs::rename(rt, part, target).is_ok() {
+                    keep_name(rt, target.as_bytes());
                     return a;
                 }
             }
-            os::unlink(part);
+            let _ = fs::remove_file(rt, part);
             Answer::Unwritten
         }
         _ => {
-            os::unlink(part);
+            let _ = fs::remove_file(rt, part);
             a
         }
     }
 }
 
 // Brings a file's name to its device, as far as the folder lets it: the file itself is there already.
-fn keep_name(path: &[u8]) {
+fn keep_name(files: &impl Files, path: &[u8]) {
     let n = folder_of(path);
     if n == 0 {
-        keep_folder(b".");
+        keep_folder(files, b".");
         return;
     }
-    keep_folder(&path[..n]);
+    keep_folder(files, &path[..n]);
 }
 
-fn keep_folder(path: &[u8]) {
-    let fd = os::open_read(path);
-    if fd < 0 {
+fn keep_folder(files: &impl Files, path: &[u8]) {
+    let Ok(path) = str::from_utf8(path) else {
         return;
-    }
-    libc::fsync(fd);
-    libc::close(fd);
+    };
+    let Ok(folder) = fs::File::open(files, path) else {
+        return;
+    };
+    let _ = folder.sync_all();
 }
 
 // How many bytes of a path name its folder, the last slash among them.

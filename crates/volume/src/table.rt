@@ -8,11 +8,11 @@ use super::file::File;
 use volume_contents::{Tested, Why};
 
 // How many problems a volume has, or how its head fails.
-pub(super) fn head(f: File, chunk: &mut [u8; 65536]) -> Answer {
-    let fd = f.fd;
+pub(super) fn head(f: &File, chunk: &mut [u8; 65536]) -> Answer {
+    let file = &f.file;
     let size = f.size;
     let n = file::least(size, 6);
-    if !file::fill(fd, 0, chunk, n) {
+    if !file::fill(file, 0, chunk, n) {
         return file::lacking(f);
     }
     let bytes: &[u8] = chunk;
@@ -41,15 +41,15 @@ pub struct Table {
 }
 
 // Tests the rows, and looks for one with the number; `back` is on the way to lines.
-pub(super) fn walk(f: File, n: u16, back: bool, number: usize, rows: &mut [u8; 65536]) -> Table {
-    let fd = f.fd;
+pub(super) fn walk(f: &File, n: u16, back: bool, number: usize, rows: &mut [u8; 65536]) -> Table {
+    let file = &f.file;
     let all = n as usize;
     let mut found = Found { row: 0, edition: 0 };
     let mut last = 0;
     let mut i = 0;
     while i < all {
         let k = file::least(all - i, 8192);
-        if !file::fill(fd, 6 + 8 * i, rows, 8 * k) {
+        if !file::fill(file, 6 + 8 * i, rows, 8 * k) {
             return Table {
                 answer: file::lacking(f),
                 found,

@@ -1,0 +1,9 @@
+-- Each line has a byte at least.
+use Rattle.std.proofs.Common.{◌≤◌, ◌-◌}
+use Rattle.volume.proofs.make.survey.Given as goal
+
+abbrev pub invariant-loop-at : goal.invariant-loop-at
+invariant-loop-at g l = (l.at ≤ l.size) × (l.count ≤ l.at)
+
+abbrev pub decreases-loop-at : goal.decreases-loop-at
+decreases-loop-at g l = l.size - l.at

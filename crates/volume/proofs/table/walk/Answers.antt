@@ -1,0 +1,7 @@
+-- Rows that are sound have numbers that rise, as the search among them needs.
+use Rattle.std.proofs.Common.{arith}
+use Rattle.volume.proofs.Rising.{walked_rising}
+use Rattle.volume.proofs.table.walk.Goals as goal
+
+pub find-found-requires : goal.find-found-requires
+find-found-requires c = (omega arith, omega arith, walked_rising _ _ _ _ _ _ _ _ c.walk-w.ensures c.in-Sound.is)
