@@ -18,7 +18,7 @@ fn by_verb(t: &[u64; 4096], line: &[u8], out: &mut [u8; 65536]) -> usize
     requires { IsBetween t.now }
     ensures { Grows 0 result }
 {
-    let editions = edition_verbs::inner::answer(t, line, out);
+    let editions = edition_verbs::inner::answer_with(t, line, out);
     if editions > 0 {
         return editions;
     }
@@ -41,15 +41,15 @@ fn by_short(t: &[u64; 4096], line: &[u8], out: &mut [u8; 65536]) -> usize
     requires { IsBetween t.now }
     ensures { Grows 0 result }
 {
-    let boards = board_verbs::inner::answer(t, line, out);
+    let boards = board_verbs::inner::answer_with(t, line, out);
     if boards > 0 {
         return boards;
     }
-    let cursors = cursor_verbs::inner::answer(t, line, out);
+    let cursors = cursor_verbs::inner::answer_with(t, line, out);
     if cursors > 0 {
         return cursors;
     }
-    let lists = list_verbs::inner::answer(t, line, out);
+    let lists = list_verbs::inner::answer_with(t, line, out);
     if lists > 0 {
         return lists;
     }

@@ -7,13 +7,22 @@ use laws::Edition;
 use refusal::Verdict;
 
 // The board of the text at a place. A verb that names no edition reads in A.
-pub fn read(t: &[u64; 4096], line: &[u8], at: usize) -> Boarded
-    requires { IsBetween t.now }
-{
-    read_in(t, line, at, Edition::A)
+pub fn read(line: &[u8], at: usize) -> Boarded {
+    read_in(line, at, Edition::A)
 }
 
-pub fn read_in(t: &[u64; 4096], line: &[u8], at: usize, edition: Edition) -> Boarded
+pub fn read_in(line: &[u8], at: usize, edition: Edition) -> Boarded {
+    let t = tables::between_table();
+    read_in_with(&t, line, at, edition)
+}
+
+pub fn read_with(t: &[u64; 4096], line: &[u8], at: usize) -> Boarded
+    requires { IsBetween t.now }
+{
+    read_in_with(t, line, at, Edition::A)
+}
+
+pub fn read_in_with(t: &[u64; 4096], line: &[u8], at: usize, edition: Edition) -> Boarded
     requires { IsBetween t.now }
 {
     text::inner::read(t, fields::inner::text(line, at), edition)

@@ -1,8 +1,8 @@
 -- The same of boards: a chain to a board is a retraction of it that has a past, and a chain to the board that un-make answers.
-use mathlib.Core.Path.{◌≡◌, sym, ap, ◌∙◌, subst}
+use mathlib.Core.Path.{◌≡◌, refl, sym, ap, ◌∙◌, subst}
 use mathlib.Core.Logic.{◌↔◌}
 use mathlib.Core.Bool.{true}
-use mathlib.Core.List.{List, [], ◌∷◌}
+use mathlib.Core.List.{List, [], ◌∷◌, ◌++◌}
 use Prim.Native.Nat.{ℕ}
 use Rattle.geometry.specs.Colors.{opp}
 use Rattle.laws.specs.declared.ChessRetraction.{ChessRetraction}
@@ -13,13 +13,15 @@ use Rattle.laws.specs.Strictness.{Gives}
 use Rattle.laws.specs.Boards.{Shaped, fresh_ok}
 use Rattle.refusal.specs.declared.Verdict.{Verdict}
 use Rattle.refusal.specs.declared.Verdict.TheVariants.{Accepted}
-use Rattle.refusal.specs.Refusals.{and_then}
+use Rattle.refusal.specs.Refusals.{verdict_number, and_then}
+use Rattle.refusal.specs.Said.{first_failing}
 use Rattle.position.specs.declared.Positioned.{Positioned}
 use Rattle.position.specs.Answers.{position_of}
 use Rattle.unmake.specs.Retracted.{unmade_for, unmade_to}
 use Rattle.board.specs.declared.RetractableBoard.{RetractableBoard}
-use Rattle.board.specs.Gate.{position_on, pos_on, to_laws, fresh_on, gate_of}
-use Rattle.board.specs.Moving.{unmade_on}
+use Rattle.board.specs.Gate.{position_on, pos_on, to_laws, fresh_on, gate_of, board_tests, no_board}
+use Rattle.board.specs.Said.{kept_behind}
+use Rattle.board.specs.Moving.{unmake_tests, unmade_on}
 use Rattle.board.specs.inner.Gates.{unmake_gate}
 use Rattle.strict.specs.Demand.{Past}
 use Rattle.chains.specs.Chains.{Chain}
@@ -27,9 +29,11 @@ use Rattle.chains.specs.inner.Walks.{PosChain}
 use Rattle.squares.proofs.Testing.{both}
 use Rattle.laws.proofs.Retracting.{kind_today, can_retract}
 use Rattle.laws.proofs.BoardPasts.{shaped}
+use Rattle.refusal.proofs.Tested.{beside_none, pass_on}
 use Rattle.unmake.proofs.Returned.{answer_is, unmade_shown, unmade_men}
 use Rattle.board.proofs.Passing.{gate_passed, gate_by}
-use Rattle.board.proofs.Moving.{fresh_worked}
+use Rattle.board.proofs.Numbers.{gate_passes}
+use Rattle.board.proofs.Moving.{fresh_worked, answer_number}
 use Rattle.chains.proofs.Walking.{chain_under, unmade_under, unmade_gives, can_retract_lem}
 
 -- an accepted board b, and a move from the position e that gives it
@@ -64,6 +68,11 @@ module _ (b : RetractableBoard) (h : gate_of b ≡ Accepted) (r : ChessRetractio
   later : (l : List ChessRetraction) → Chain l (unmade_on b r) → Chain (r ∷ l) b
   later l c = (unmade_on b r, kind_today (pos_on b) r, shaped_earlier, gate_earlier, given, c)
 
+  tests_pass : first_failing (board_tests b ++ unmake_tests (pos_on b) r) ≡ 0
+  tests_pass =
+      sym (pass_on (board_tests b) (unmake_tests (pos_on b) r) (gate_passes b (gate_of b) refl h)) ∙ sym (answer_number (pos_on b) r)
+      ∙ ap (λ (u : Positioned). verdict_number u.verdict) (answer_is (pos_on b) r can)
+
   passes : unmake_gate b r ≡ Accepted
   passes = ap (λ (v : Verdict). and_then v (unmade_to (pos_on b) r).verdict) h ∙ ap (λ (u : Positioned). u.verdict) (answer_is (pos_on b) r can)
 
@@ -85,6 +94,9 @@ module _ (b : RetractableBoard) (h : gate_of b ≡ Accepted) (r : ChessRetractio
 
     pub past_turn : (unmade_on b r).turn ≡ opp b.turn
     past_turn = ap (λ (p : Pos). p.turn) (pos_earlier b h r (pos_on q.0) q.1 q.4)
+
+    pub past_board : kept_behind (board_tests b ++ unmake_tests (pos_on b) r) (unmade_on b r) ≡ unmade_on b r
+    past_board = sym (beside_none (board_tests b ++ unmake_tests (pos_on b) r) (unmade_on b r) no_board (tests_pass b h r (pos_on q.0) q.1 q.4))
 
     pub past_passes : unmake_gate b r ≡ Accepted
     past_passes = passes b h r (pos_on q.0) q.1 q.4

@@ -122,7 +122,7 @@ fn put_board(
         return put_placed(desks::put(table, desk, b), out, len);
     }
     let t = tables::between_table();
-    let today = board_field::inner::read(&t, line, at);
+    let today = board_field::inner::read_with(&t, line, at);
     let v = today.verdict;
     match v {
         Verdict::Refused(r) => puts::inner::refused_by(out, len, refusal::number(r)),

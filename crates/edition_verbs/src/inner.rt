@@ -33,7 +33,15 @@ enum Question {
 }
 
 // The answer to a line of one of these verbs, 0 bytes to any other.
-pub fn answer(t: &[u64; 4096], line: &[u8], out: &mut [u8; 65536]) -> usize
+pub fn answer(line: &[u8], out: &mut [u8; 65536]) -> usize
+    ensures { Grows 0 result }
+{
+    let t = tables::between_table();
+    answer_with(&t, line, out)
+}
+
+// The same over a lent table.
+pub fn answer_with(t: &[u64; 4096], line: &[u8], out: &mut [u8; 65536]) -> usize
     requires { IsBetween t.now }
     ensures { Grows 0 result }
 {
@@ -127,7 +135,7 @@ fn of_text(
     requires { IsBetween t.now }
     ensures { Grows 0 result }
 {
-    let today = board_field::inner::read_in(t, line, at, edition);
+    let today = board_field::inner::read_in_with(t, line, at, edition);
     let v = today.verdict;
     match v {
         Verdict::Refused(w) => puts::inner::refused(w, out),

@@ -12,10 +12,14 @@ use Rattle.squares.specs.Tests.{◌and◌}
 use Rattle.laws.specs.declared.ChessRetraction.{ChessRetraction}
 use Rattle.laws.specs.StrictLists.{place}
 use Rattle.refusal.specs.declared.Refusal.{Refusal}
+use Rattle.refusal.specs.declared.Verdict.{Verdict}
 use Rattle.refusal.specs.declared.Verdict.TheVariants.{Accepted, Refused}
+use Rattle.refusal.specs.Refusals.{verdict_number}
 use Rattle.refusal.specs.Said.{first_failing}
 use Rattle.board.specs.declared.RetractableBoard.{RetractableBoard}
+use Rattle.board.specs.declared.Boarded.{Boarded}
 use Rattle.board.specs.Gate.{gate_of, board_tests}
+use Rattle.board.specs.Said.{Boards}
 use Rattle.history.specs.declared.History.{History}
 use Rattle.history.specs.declared.Told.{Told}
 use Rattle.history.specs.declared.Told.TheVariants.{Yes, No}
@@ -25,8 +29,9 @@ use Rattle.history.specs.declared.Answer.{Answer}
 use Rattle.history.specs.declared.Answer.TheVariants.{Past, NoPast, Refused as notAnswered}
 use Rattle.history.specs.Histories.{NotAfter, FirstHistory, history_of, plies_of, Tells, why_number, number_for, Answers}
 use Rattle.squares.proofs.Testing.{both, left, right, cases}
-use Rattle.refusal.proofs.Saying.{some_number, number_low, number_one}
+use Rattle.refusal.proofs.Saying.{some_number, number_low, number_one, verdict_one}
 use Rattle.refusal.proofs.Tested.{beside_refused}
+use Rattle.board.proofs.Passing.{gate_number}
 use Rattle.board.proofs.Numbers.{gate_refuses, gate_passes, passed_gate}
 
 pub some_why : (w : Why) → eqb (why_number w) 0 ≡ false
@@ -35,6 +40,10 @@ some_why Depth = refl
 
 pub never_zero : (w : Why) → why_number w ≡ 0 → ⊥
 never_zero w e = false≢true (sym (some_why w) ∙ eq-eqb (why_number w) 0 e)
+
+-- what `judge` answers is what the gate says
+pub judged_gate : (b : RetractableBoard) {r : Boarded} {v : Verdict} → Boards (board_tests b) b r → r.verdict ≡ v → gate_of b ≡ v
+judged_gate b {v = v} x e = verdict_one (gate_of b) v (gate_number b ∙ sym x.number ∙ ap verdict_number e)
 
 module _ (b : RetractableBoard) (n : ℕ) where
   -- the number by the depth, on a board that passes 1 to 7

@@ -14,7 +14,7 @@ use position_text::Copied;
 use refusal::{Refusal, Verdict};
 
 // A depth as a byte. All above 255 are out of range as it is.
-fn small(depth: u16) -> u8
+pub fn small(depth: u16) -> u8
     ensures { result ≡ min depth 255 }
 {
     if depth < 255 { depth as u8 } else { 255 }
@@ -82,7 +82,15 @@ fn put_history(b: RetractableBoard, depth: u8, told: Answer, out: &mut [u8; 1966
 }
 
 // The text is refused before the depth.
-fn answer(t: &[u64; 4096], text: &[u8], depth: u8, out: &mut [u8; 196608]) -> usize
+pub fn answer(text: &[u8], depth: u8, out: &mut [u8; 196608]) -> usize
+    ensures { AnswersText text.now depth result out.old out.new }
+{
+    let t = tables::between_table();
+    answer_with(&t, text, depth, out)
+}
+
+// The same over a lent table.
+pub fn answer_with(t: &[u64; 4096], text: &[u8], depth: u8, out: &mut [u8; 196608]) -> usize
     requires { IsBetween t.now }
     ensures { AnswersText text.now depth result out.old out.new }
 {
@@ -111,5 +119,5 @@ pub fn reply(t: &[u64; 4096], line: &[u8], out: &mut [u8; 196608]) -> usize
         return reply::put_refused(Refusal::Text, out);
     }
     let k = j - 1;
-    answer(t, &line[..k], small(depth), out)
+    answer_with(t, &line[..k], small(depth), out)
 }

@@ -19,7 +19,15 @@ enum Question {
 }
 
 // The answer to a line of one of these verbs, 0 bytes to any other.
-pub fn answer(t: &[u64; 4096], line: &[u8], out: &mut [u8; 65536]) -> usize
+pub fn answer(line: &[u8], out: &mut [u8; 65536]) -> usize
+    ensures { Grows 0 result }
+{
+    let t = tables::between_table();
+    answer_with(&t, line, out)
+}
+
+// The same over a lent table.
+pub fn answer_with(t: &[u64; 4096], line: &[u8], out: &mut [u8; 65536]) -> usize
     requires { IsBetween t.now }
     ensures { Grows 0 result }
 {
@@ -59,7 +67,7 @@ fn of_text(t: &[u64; 4096], what: Question, line: &[u8], out: &mut [u8; 65536]) 
     requires { IsBetween t.now }
     ensures { Grows 0 result }
 {
-    let today = board_field::inner::read(t, line, fields::inner::after(line, 0, b'\t'));
+    let today = board_field::inner::read_with(t, line, fields::inner::after(line, 0, b'\t'));
     let v = today.verdict;
     match v {
         Verdict::Refused(w) => puts::inner::refused(w, out),

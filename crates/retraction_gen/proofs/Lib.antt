@@ -5,7 +5,6 @@ pub mod Lowest
 pub mod Going
 pub mod Stepping
 pub mod Sources
-pub mod Rest
 pub mod Remaining
 pub mod Whole
 pub mod Numbered

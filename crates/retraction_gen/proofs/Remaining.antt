@@ -19,7 +19,7 @@ use Rattle.retraction_gen.specs.declared.Turn.{Turn}
 use Rattle.retraction_gen.specs.declared.Turn.TheVariants.{Again, Found, Over}
 use Rattle.retraction_gen.specs.declared.Turned.{Turned}
 use Rattle.retraction_gen.specs.Cursors.{with_index, with_uncaptured, turned, entry_at, lessened, spent, is_un_en_passant, barred, un_en_passant_to, uncaptured_to, turn_in, on_entry, turn_of}
-use Rattle.retraction_gen.proofs.Rest.{listed, later, rest_in, window_of, rest_of}
+use Rattle.retraction_gen.specs.inner.Rest.{listed, later, rest_in, window_of, rest_of}
 use Rattle.retraction_gen.specs.Sequence.{allowed, sequence_of}
 use Rattle.retraction_gen.proofs.Lowest.{members_lowest, members_empty}
 use Rattle.retraction_gen.proofs.Going.{on_len, lowest_none}

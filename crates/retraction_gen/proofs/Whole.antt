@@ -25,7 +25,7 @@ use Rattle.retraction_gen.specs.Making.{list_on, masks_on, start_of, list_tests,
 use Rattle.retraction_gen.specs.Cursors.{with_index, with_uncaptured, turned, retraction_said, end_said, Answered, back, entry_at, lessened, spent, is_un_en_passant, barred, un_en_passant_to, uncaptured_to, turn_in, on_entry, turn_of, fuel, step_of, well_formed, next_of}
 use Rattle.squares.specs.Members.{lowest_of}
 use Rattle.retraction_gen.specs.Sequence.{sequence_of, sequence_on, Yields}
-use Rattle.retraction_gen.proofs.Rest.{rest_in, window_of, rest_of}
+use Rattle.retraction_gen.specs.inner.Rest.{rest_in, window_of, rest_of}
 use Rattle.retraction_gen.proofs.Going.{on_len, again_less, turn_less, step_again, step_found, step_over}
 use Rattle.squares.proofs.Testing.{both, left, right}
 use Rattle.retraction_gen.proofs.Remaining.{found, turn_gives, rest_sequence}
@@ -71,7 +71,7 @@ pub turn_formed : (g : RetractionGen) → well_formed (turn_of g).cursor ≡ wel
 unfolding turn_of
 turn_formed g = ways_formed g (on_entry g) (ltb 63 (lowest_of (entry_at g).targets))
 
-formed_len : (g : RetractionGen) → well_formed g ≡ true → g.len ≤ 47
+pub formed_len : (g : RetractionGen) → well_formed g ≡ true → g.len ≤ 47
 unfolding well_formed
 formed_len g w = leb-true g.len 47 (left (leb g.len 47) _ w)
 
@@ -129,11 +129,11 @@ unfolding window_of
 window_front [] ys = refl
 window_front (x ∷ xs) ys = ap (λ (l : List SourceAndTargets). x ∷ l) (window_tail (length xs) 0 x (xs ++ ys) ∙ window_front xs ys)
 
-start_formed : (es : List SourceAndTargets) (ms : List ℕ) → length es ≤ 47 → sound es ≡ true → well_formed (start_of (holding es) ms) ≡ true
+pub start_formed : (es : List SourceAndTargets) (ms : List ℕ) → length es ≤ 47 → sound es ≡ true → well_formed (start_of (holding es) ms) ≡ true
 unfolding well_formed holding
 start_formed es ms h s = both (le-leb (length es) 47 h) (ap sound (take_front es (replicate (47 - length es) no_entry)) ∙ s)
 
-start_rest : (es : List SourceAndTargets) (ms : List ℕ) → rest_of (start_of (holding es) ms) ≡ sequence_of ms es
+pub start_rest : (es : List SourceAndTargets) (ms : List ℕ) → rest_of (start_of (holding es) ms) ≡ sequence_of ms es
 unfolding rest_of holding
 start_rest es ms =
     let e : length es - 0 ≡ length es = omega arith in
@@ -145,11 +145,11 @@ module _ (b : RetractableBoard) (m : Made) (k : Makes (list_tests b) (cursor_on 
   none_failed : first_failing (list_tests b) ≡ 0
   none_failed = sym k.number ∙ ap verdict_number h
 
-  made_start : m.cursor ≡ start_of (holding (list_on b)) (masks_on b)
+  pub made_start : m.cursor ≡ start_of (holding (list_on b)) (masks_on b)
   unfolding cursor_on
   made_start = k.cursor ∙ sym (beside_none (list_tests b) (cursor_on b) no_cursor none_failed)
 
-  made_fits : length (list_on b) ≤ 47
+  pub made_fits : length (list_on b) ≤ 47
   made_fits = (list_passed b none_failed).1
 
   -- "a cursor that yields its first retraction and then pretends to be at the end" is shut out

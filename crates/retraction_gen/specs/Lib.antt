@@ -1,3 +1,4 @@
 pub mod Making
 pub mod Cursors
 pub mod Sequence
+pub mod inner

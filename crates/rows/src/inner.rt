@@ -3,7 +3,7 @@ ghost use Rattle.std.specs.Prelude.{◌≡◌, [], ◌++◌, ◌+◌, ◌*◌, �
 ghost use Rattle.io.specs.Counts.{IsPrefixLen};
 ghost use Rattle.output.specs.Appending.{Adds};
 ghost use Rattle.squares.specs.Members.{concat};
-ghost use Rattle.rows.specs.Rows.{uncaptured_letter, mark_byte, fields_by, row_of, is_in, head_of, checkers_line};
+ghost use Rattle.rows.specs.Rows.{uncaptured_letter, mark_byte, fields_by, row_of, is_in, listed_row, strict_row, head_of, checkers_line};
 ghost use Rattle.rows.specs.inner.Marked.{marked, Marks, MarksOf, listed_by, strict_by};
 
 use laws::ChessRetraction;
@@ -123,7 +123,7 @@ fn put_strict_row(out: &mut [u8], len: usize, slot: u16, listed: &[u64; 1024]) -
 }
 
 // Each listed retraction, in list order.
-pub fn put_listed(out: &mut [u8], len: usize, listed: &[u16], strict: &[u64; 1024]) -> usize
+pub fn put_listed_by(out: &mut [u8], len: usize, listed: &[u16], strict: &[u64; 1024]) -> usize
     requires { len + length (concat (listed_by strict.now) listed.now) ≤ length out.old }
     ensures { Adds out.old len (concat (listed_by strict.now) listed.now) result out.new }
 {
@@ -136,8 +136,18 @@ pub fn put_listed(out: &mut [u8], len: usize, listed: &[u16], strict: &[u64; 102
     at
 }
 
+// The same by the strict list.
+pub fn put_listed(out: &mut [u8], len: usize, listed: &[u16], strict: &[u16]) -> usize
+    requires { len + length (concat (listed_row strict.now) listed.now) ≤ length out.old }
+    ensures { Adds out.old len (concat (listed_row strict.now) listed.now) result out.new }
+{
+    let mut in_strict = [0u64; 1024];
+    mark_all(strict, &mut in_strict);
+    put_listed_by(out, len, listed, &in_strict)
+}
+
 // Each strict retraction that is not listed, in strict order.
-pub fn put_strict(out: &mut [u8], len: usize, strict: &[u16], listed: &[u64; 1024]) -> usize
+pub fn put_strict_by(out: &mut [u8], len: usize, strict: &[u16], listed: &[u64; 1024]) -> usize
     requires { len + length (concat (strict_by listed.now) strict.now) ≤ length out.old }
     ensures { Adds out.old len (concat (strict_by listed.now) strict.now) result out.new }
 {
@@ -150,6 +160,16 @@ pub fn put_strict(out: &mut [u8], len: usize, strict: &[u16], listed: &[u64; 102
     at
 }
 
+// The same by the list of the listed ones.
+pub fn put_strict(out: &mut [u8], len: usize, strict: &[u16], listed: &[u16]) -> usize
+    requires { len + length (concat (strict_row listed.now) strict.now) ≤ length out.old }
+    ensures { Adds out.old len (concat (strict_row listed.now) strict.now) result out.new }
+{
+    let mut in_listed = [0u64; 1024];
+    mark_all(listed, &mut in_listed);
+    put_strict_by(out, len, strict, &in_listed)
+}
+
 // How many rows a strict retraction has: none where it is listed.
 fn rows_of(slot: u16, listed: &[u64; 1024]) -> usize
     ensures { (11 * result ≡ length (strict_by listed.now slot)) × (result ≤ 1) }
@@ -160,8 +180,8 @@ fn rows_of(slot: u16, listed: &[u64; 1024]) -> usize
     1
 }
 
-// How many rows `put_strict` writes. A row has 11 bytes.
-pub fn count_strict(strict: &[u16], listed: &[u64; 1024]) -> usize
+// How many rows `put_strict_by` writes. A row has 11 bytes.
+pub fn count_strict_by(strict: &[u16], listed: &[u64; 1024]) -> usize
     ensures { 11 * result ≡ length (concat (strict_by listed.now) strict.now) }
 {
     let mut n: usize = 0;
@@ -171,6 +191,15 @@ pub fn count_strict(strict: &[u16], listed: &[u64; 1024]) -> usize
         i += 1;
     }
     n
+}
+
+// The same by the list of the listed ones: how many rows `put_strict` writes.
+pub fn count_strict(strict: &[u16], listed: &[u16]) -> usize
+    ensures { 11 * result ≡ length (concat (strict_row listed.now) strict.now) }
+{
+    let mut in_listed = [0u64; 1024];
+    mark_all(listed, &mut in_listed);
+    count_strict_by(strict, &in_listed)
 }
 
 // `listed A strict B`, which 56 bytes hold.

@@ -17,7 +17,7 @@ pub fn report(out: &mut [u8], len: usize, checkers: u64, listed: &[u16], strict:
     let n = inner::put_top(&mut top, listed.len() as u64, strict.len() as u64, checkers);
     let mut in_listed = [0u64; 1024];
     inner::mark_all(listed, &mut in_listed);
-    let more = inner::count_strict(strict, &in_listed);
+    let more = inner::count_strict_by(strict, &in_listed);
     let size = inner::size(n, listed.len(), more);
     if !output::inner::has_room(out.len(), len, size) {
         return Put::Room(size);
@@ -25,6 +25,6 @@ pub fn report(out: &mut [u8], len: usize, checkers: u64, listed: &[u16], strict:
     let mut in_strict = [0u64; 1024];
     inner::mark_all(strict, &mut in_strict);
     let a = output::put_bytes(out, len, &top[..n]).used(len);
-    let b = inner::put_listed(out, a, listed, &in_strict);
-    Put::Count(inner::put_strict(out, b, strict, &in_listed))
+    let b = inner::put_listed_by(out, a, listed, &in_strict);
+    Put::Count(inner::put_strict_by(out, b, strict, &in_listed))
 }

@@ -1,5 +1,5 @@
 -- What remains of the strict list from a place on.
-use mathlib.Core.Path.{◌≡◌, refl, sym, ap, ◌∙◌}
+use mathlib.Core.Path.{◌≡◌, refl, sym, ap, ◌∙◌, subst}
 use mathlib.Core.Bool.{Bool, true, false}
 use mathlib.Core.List.{List, [], ◌∷◌, map}
 use Prim.Native.Nat.{ℕ, zero, suc, ◌+◌, ◌-◌, ◌≤◌, ◌<◌}
@@ -65,6 +65,18 @@ rest_here f j h e =
 pub all_rest : (p : Pos) → strict_moves p ≡ rest (test_of p) 0
 unfolding strict_moves moves_from test_of strict_for
 all_rest p = refl
+
+length_le : (f : ℕ → Bool) (i n : ℕ) → length (moves_from f i n) ≤ n
+unfolding moves_from
+length_le f i zero = omega arith
+length_le f i (suc n) = go (f i) (length_le f (suc i) n)
+  where
+    go : (t : Bool) → length (map retraction_at (numbers_from f (suc i) n)) ≤ n → length (one_place f i n t) ≤ suc n
+    go true h = omega arith
+    go false h = omega arith
+
+pub moves_le : (p : Pos) → length (strict_moves p) ≤ 49152
+moves_le p = subst (λ (l : List ChessRetraction). length l ≤ 49152) (sym (all_rest p)) (length_le (test_of p) 0 49152)
 
 pub kept_rest : (l : List ℕ) → kept_moves l ≡ rest (kept_test l) 0
 unfolding kept_moves moves_from

@@ -1,1 +1,2 @@
 pub mod Strictly
+pub mod Coming

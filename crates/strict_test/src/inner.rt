@@ -13,6 +13,8 @@ ghost use Rattle.strict_test.specs.inner.Strictly.{counts_for, safe_for, none_fo
 use laws::{ChessRetraction, Color, EnPassantFlag, Position, Side, Way};
 use refusal::Verdict;
 
+pub mod coming; // coming.rt: which squares a man can have come from
+
 // Souls at most 8 a side: un-promotion can make the retractor's nine, un-en-passant the other side's.
 fn few_souls(e: Position) -> bool
     requires { Clean e.pieces e.colors }

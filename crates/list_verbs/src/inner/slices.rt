@@ -17,7 +17,7 @@ pub(super) fn print(t: &[u64; 4096], line: &[u8], out: &mut [u8; 65536]) -> usiz
     let size = fields::inner::size(line, fields::inner::after(line, at, b'\t'));
     let mut slice = [b'#'; 8192];
     put_text(
-        board_field::inner::read(t, line, at),
+        board_field::inner::read_with(t, line, at),
         &mut slice[..size],
         out,
     )
@@ -73,7 +73,7 @@ pub(super) fn list(t: &[u64; 4096], strict: bool, line: &[u8], out: &mut [u8; 65
     put_list(
         t,
         strict,
-        board_field::inner::read(t, line, at),
+        board_field::inner::read_with(t, line, at),
         &mut slots[..size],
         out,
     )

@@ -25,6 +25,11 @@ pub record Skips (f : ℕ → Bool) (i j : ℕ) : Type 0 where
   pub most : j ≤ 49152
   pub none : (k : ℕ) → i ≤ k → k < j → f k ≡ false
 
+-- one look at the place i: j is i itself where it passes
+pub record Looks (f : ℕ → Bool) (i j : ℕ) : Type 0 where
+  pub skips : Skips f i j
+  pub here : j ≡ i → f i ≡ true
+
 -- j is the first place from i on that passes, or the end
 pub record Next (f : ℕ → Bool) (i j : ℕ) : Type 0 where
   pub skips : Skips f i j

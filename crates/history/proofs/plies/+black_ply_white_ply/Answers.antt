@@ -1,5 +1,4 @@
 -- The plies meet their contracts. The measure of each is the depth.
-use Prim.Native.Nat.{◌-◌}
 use native.Mathlib.Omega.{arith}
 use Rattle.history.proofs.Searching.{told_none, none_below, at_end, found_is, ended, never_refused, place_on, asks_earlier, yes_with, no_with}
 use Rattle.history.proofs.plies.+black_ply_white_ply.Goals as goal

@@ -1,9 +1,8 @@
 -- `retraction_gen::inner::one_turn` meets its contract.
 use mathlib.Core.Path.{sym, ◌∙◌}
-use mathlib.Core.Bool.{true}
 use native.Mathlib.Omega.{arith}
 use borrow.Author.Tests.{lt-ltb, le-ltb}
-use Rattle.retraction_gen.specs.Cursors.{on_entry, turn_of}
+use Rattle.retraction_gen.specs.Cursors.{turn_of}
 use Rattle.retraction_gen.proofs.Going.{on_index}
 use Rattle.retraction_gen.proofs.inner.one_turn.Goals as goal
 

@@ -1,7 +1,6 @@
 -- `retraction_gen::inner::well_formed` meets its contract.
-use mathlib.Core.Bool.{true}
 use mathlib.Core.Path.{◌≡◌, sym}
-use Prim.Native.Nat.{◌-◌, suc-le-suc}
+use Prim.Native.Nat.{suc-le-suc}
 use native.Mathlib.Omega.{arith}
 use borrow.Author.Rules.{rules}
 use borrow.Author.Tests.{le-leb, lt-leb}

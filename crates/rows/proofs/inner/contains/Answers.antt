@@ -1,6 +1,5 @@
 -- `rows::inner::contains` meets its contract.
 use mathlib.Core.Path.{refl, sym, ◌∙◌}
-use Prim.Native.Nat.{◌-◌}
 use native.Mathlib.Omega.{arith}
 use Rattle.rows.proofs.Rows.{in_none, in_here, in_later}
 use Rattle.rows.proofs.inner.contains.Goals as goal

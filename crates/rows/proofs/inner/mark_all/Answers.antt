@@ -1,6 +1,5 @@
 -- `rows::inner::mark_all` meets its contract.
 use mathlib.Core.Path.{◌∙◌}
-use Prim.Native.Nat.{◌-◌}
 use native.Mathlib.Omega.{arith}
 use Rattle.rows.proofs.Marking.{marking_none, marking_next, marking_all}
 use Rattle.rows.proofs.inner.mark_all.Goals as goal

@@ -1,24 +1,18 @@
 -- `rows::inner::put_strict` meets its contract.
-use mathlib.Core.Path.{refl, ap}
-use Prim.Native.Nat.{◌-◌}
-use native.Mathlib.Omega.{arith}
-use lib.Seq.{take_all}
-use borrow.Author.Rules.{rules}
+use mathlib.Core.Path.{sym, ap, subst}
+use lib.ListN.{length}
+use mathlib.Core.List.{List}
+use Prim.Native.Nat.{ℕ, ◌+◌, ◌≤◌}
 use Rattle.squares.specs.Members.{concat}
-use Rattle.rows.specs.inner.Marked.{strict_by}
-use Rattle.output.proofs.Adding.{adds_as, adds_nothing}
-use Rattle.rows.proofs.Adding.{adds_next}
+use Rattle.output.proofs.Adding.{adds_as}
+use Rattle.rows.proofs.Marking.{marks_none, strict_same}
 use Rattle.rows.proofs.inner.put_strict.Goals as goal
 
-pub loop-i-init : goal.loop-i-init
-unfolding concat
-loop-i-init c = (omega arith, adds_nothing c.args.out.now c.args.len, refl)
+pub mark_all-requires : goal.mark_all-requires
+mark_all-requires c = marks_none
 
-pub loop-i-preserved : goal.loop-i-preserved
-loop-i-preserved c = (omega arith, adds_next (strict_by c.args.listed.now) c.args.strict.now c.loop-i.i c.loop-i-test.true _ _ _ _ _ _ c.requires c.loop-i.invariant.1 c.put_strict_row-at.ensures, search rules)
-
-pub shape_of-out : goal.shape_of-out
-shape_of-out c = c.loop-i.invariant.2
+pub put_strict_by-requires : goal.put_strict_by-requires
+put_strict_by-requires c = subst (λ (f : ℕ → List ℕ). c.args.len + length (concat f c.args.strict.now) ≤ length c.args.out.now) (sym (strict_same c.mark_all.ensures)) c.requires
 
 pub returns : goal.returns
-returns c = adds_as _ _ _ _ _ _ c.loop-i.invariant.1 (ap (concat (strict_by c.args.listed.now)) (take_all c.loop-i.i c.args.strict.now (omega arith)))
+returns c = adds_as _ _ _ _ _ _ c.put_strict_by.ensures (ap (λ (f : ℕ → List ℕ). concat f c.args.strict.now) (strict_same c.mark_all.ensures))

@@ -1,5 +1,4 @@
 -- `strict_search::inner::gather` meets its contract.
-use Prim.Native.Nat.{◌-◌}
 use native.Mathlib.Omega.{arith}
 use Rattle.laws.specs.Boards.{pos_at}
 use Rattle.strict_search.proofs.Sourcing.{gathered_none, gathered_more, gathered_le, gathered_all}

@@ -1,5 +1,4 @@
 -- `strict_search::inner::next_from` meets its contract.
-use Prim.Native.Nat.{◌-◌}
 use native.Mathlib.Omega.{arith}
 use Rattle.laws.specs.Boards.{pos_at}
 use Rattle.strict_search.proofs.Skipping.{skips_none, skips_both}

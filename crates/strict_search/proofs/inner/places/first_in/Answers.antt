@@ -1,5 +1,4 @@
 -- `strict_search::inner::places::first_in` meets its contract.
-use Prim.Native.Nat.{◌-◌}
 use native.Mathlib.Omega.{arith}
 use Rattle.strict_search.specs.inner.Searching.{holds_in}
 use Rattle.strict_search.proofs.Skipping.{skips_none}

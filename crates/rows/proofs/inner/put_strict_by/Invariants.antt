@@ -4,7 +4,7 @@ use lib.ListN.{length, take}
 use Rattle.squares.specs.Members.{concat}
 use Rattle.output.specs.Appending.{Adds}
 use Rattle.rows.specs.inner.Marked.{strict_by}
-use Rattle.rows.proofs.inner.put_strict.Given as goal
+use Rattle.rows.proofs.inner.put_strict_by.Given as goal
 
 abbrev pub invariant-loop-i : goal.invariant-loop-i
 invariant-loop-i l = (l.i ≤ length l.strict) × Adds l.initial.out l.len (concat (strict_by l.listed) (take l.i l.strict)) l.at l.out × (length l.out ≡ length l.initial.out)

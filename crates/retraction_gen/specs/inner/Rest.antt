@@ -1,8 +1,5 @@
--- What any cursor has still to give.
-use mathlib.Core.Bool.{Bool, true, false}
-use mathlib.Core.List.{List, [], ◌∷◌, ◌++◌, map}
-use Prim.Native.Nat.{ℕ, zero, suc, ◌-◌}
-use lib.ListN.{get_or}
+-- What any cursor has still to give, as the loops that walk one need it.
+use Rattle.std.specs.Prelude.{Bool, true, false, List, [], ◌∷◌, ◌++◌, map, ℕ, zero, suc, ◌-◌, get_or}
 use Rattle.squares.specs.Members.{members, concat, numbers_from}
 use Rattle.laws.specs.declared.ChessRetraction.{ChessRetraction}
 use Rattle.retraction_list.specs.declared.SourceAndTargets.{SourceAndTargets}
