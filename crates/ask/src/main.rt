@@ -17,7 +17,7 @@ fn main(rt: HostRuntime) {
     answer_all(&rt, &t, &mut chunk, &mut line, &mut out);
 }
 
-// No input uses the turns up. `t` is the table of squares between, lent.
+// No input uses the turns up. Where nothing more can be written, nothing more is read. `t` is the table of squares between, lent.
 fn answer_all(
     rt: &(impl Input + Print),
     t: &[u64; 4096],
@@ -33,7 +33,9 @@ fn answer_all(
         let Step::Line { len, long: _, next } = s else {
             return;
         };
-        answer(rt, t, line, len, out);
+        if !answer(rt, t, line, len, out) {
+            return;
+        }
         c = next;
     }
 }
@@ -45,11 +47,11 @@ fn answer(
     line: &[u8; 65536],
     len: usize,
     out: &mut [u8; 65536],
-)
+) -> bool
     requires { IsBetween t.now × (len ≤ 65536) }
 {
     let asked: &[u8] = line;
     let n = verbs::reply(t, &asked[..len], out);
     let text: &[u8] = out;
-    let _ = stdout.write_all(&text[..n]);
+    stdout.write_all(&text[..n]).is_ok()
 }
