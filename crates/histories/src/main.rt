@@ -7,7 +7,7 @@ ghost use Rattle.io.specs.Counts.{IsPrefixLen};
 
 use input::Step;
 use refusal::Refusal;
-use std::io::Input;
+use std::io::{ErrorKind, Input};
 
 fn main(rt: HostRuntime) {
     let t = tables::between_table();
@@ -40,7 +40,6 @@ fn answer_all(
             }
             Step::Line { len, long, next } => {
                 if !answer(rt, t, line, len, long, out) {
-                    let _ = eprintln!(rt; "histories: the output cannot be written");
                     return;
                 }
                 c = next;
@@ -51,7 +50,7 @@ fn answer_all(
 
 // One write a line. A line longer than its buffer has no form, though what the buffer holds may have it.
 fn answer(
-    stdout: &impl Print,
+    rt: &(impl Print + Eprint),
     t: &[u64; 4096],
     line: &[u8; 65536],
     len: usize,
@@ -62,16 +61,23 @@ fn answer(
 {
     if long {
         let n = reply::put_refused(Refusal::Text, out);
-        return write(stdout, out, n);
+        return write(rt, out, n);
     }
     let asked: &[u8] = line;
     let n = history_reply::inner::reply(t, &asked[..len], out);
-    write(stdout, out, n)
+    write(rt, out, n)
 }
 
-fn write(stdout: &impl Print, out: &[u8; 196608], n: usize) -> bool
+// False where it cannot be written, which is told, but where the reader is gone.
+fn write(rt: &(impl Print + Eprint), out: &[u8; 196608], n: usize) -> bool
     requires { IsPrefixLen n out.now }
 {
     let printed: &[u8] = out;
-    stdout.write_all(&printed[..n]).is_ok()
+    let Err(why) = rt.write_all(&printed[..n]) else {
+        return true;
+    };
+    if !matches!(why.kind(), ErrorKind::BrokenPipe) {
+        let _ = eprintln!(rt; "histories: the output cannot be written");
+    }
+    false
 }

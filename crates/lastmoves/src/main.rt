@@ -6,7 +6,7 @@ ghost use Rattle.geometry.specs.Lines.{IsBetween};
 
 use input::Step;
 use laws::Edition;
-use std::io::Input;
+use std::io::{ErrorKind, Input};
 
 fn main(rt: HostRuntime) {
     let t = tables::between_table();
@@ -51,7 +51,6 @@ fn answer_all(
             }
             Step::Line { len, long: _, next } => {
                 if !answer_line(rt, t, line, len, listed, strict, out) {
-                    let _ = eprintln!(rt; "lastmoves: the output cannot be written");
                     return;
                 }
                 c = next;
@@ -60,9 +59,9 @@ fn answer_all(
     }
 }
 
-// One write a line. A line longer than its buffer has no form, and neither have its first 65,536 bytes.
+// One write a line; false where it cannot be written, which is told, but where the reader is gone. A line longer than its buffer has no form, and neither have its first 65,536 bytes.
 fn answer_line(
-    stdout: &impl Print,
+    rt: &(impl Print + Eprint),
     t: &[u64; 4096],
     line: &[u8; 65536],
     len: usize,
@@ -75,5 +74,11 @@ fn answer_line(
     let text: &[u8] = line;
     let n = reply::inner::reply(t, &text[..len], Edition::A, listed, strict, out);
     let printed: &[u8] = out;
-    stdout.write_all(&printed[..n]).is_ok()
+    let Err(why) = rt.write_all(&printed[..n]) else {
+        return true;
+    };
+    if !matches!(why.kind(), ErrorKind::BrokenPipe) {
+        let _ = eprintln!(rt; "lastmoves: the output cannot be written");
+    }
+    false
 }

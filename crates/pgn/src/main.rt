@@ -8,7 +8,7 @@ ghost use Rattle.io.specs.Counts.{IsPrefixLen};
 use input::Step;
 use laws::Edition;
 use refusal::Refusal;
-use std::io::Input;
+use std::io::{ErrorKind, Input};
 
 mod counters; // counters.rt: the two counters of a text that is sent out
 
@@ -50,7 +50,6 @@ fn answer_all(
             }
             Step::Line { len, long: _, next } => {
                 if !answer_line(rt, line, len, listed, strict, out) {
-                    let _ = eprintln!(rt; "pgn: the output cannot be written");
                     return;
                 }
                 c = next;
@@ -61,7 +60,7 @@ fn answer_all(
 
 // By the command's letter. A line longer than its buffer is answered for what the buffer holds: no record or text of that length is taken.
 fn answer_line(
-    stdout: &impl Print,
+    rt: &(impl Print + Eprint),
     line: &[u8; 65536],
     len: usize,
     listed: &mut [u16; 8192],
@@ -74,10 +73,10 @@ fn answer_line(
     let asked = &buffer[..len];
     let letter = letter_of(asked);
     match letter {
-        b'A' => answer_record(stdout, rest(asked), Edition::A, listed, strict, out),
-        b'B' => answer_record(stdout, rest(asked), Edition::B, listed, strict, out),
-        b'S' => answer_sent(stdout, rest(asked), out),
-        _ => refused(stdout, out),
+        b'A' => answer_record(rt, rest(asked), Edition::A, listed, strict, out),
+        b'B' => answer_record(rt, rest(asked), Edition::B, listed, strict, out),
+        b'S' => answer_sent(rt, rest(asked), out),
+        _ => refused(rt, out),
     }
 }
 
@@ -98,20 +97,27 @@ fn rest(line: &[u8]) -> &[u8] {
     &line[2..]
 }
 
-fn refused(stdout: &impl Print, out: &mut [u8; 196608]) -> bool {
+fn refused(rt: &(impl Print + Eprint), out: &mut [u8; 196608]) -> bool {
     let n = reply::put_refused(Refusal::Text, out);
-    write(stdout, out, n)
+    write(rt, out, n)
 }
 
-fn write(stdout: &impl Print, out: &[u8; 196608], n: usize) -> bool
+// False where it cannot be written, which is told, but where the reader is gone.
+fn write(rt: &(impl Print + Eprint), out: &[u8; 196608], n: usize) -> bool
     requires { IsPrefixLen n out.now }
 {
     let printed: &[u8] = out;
-    stdout.write_all(&printed[..n]).is_ok()
+    let Err(why) = rt.write_all(&printed[..n]) else {
+        return true;
+    };
+    if !matches!(why.kind(), ErrorKind::BrokenPipe) {
+        let _ = eprintln!(rt; "pgn: the output cannot be written");
+    }
+    false
 }
 
 fn answer_record(
-    stdout: &impl Print,
+    rt: &(impl Print + Eprint),
     record: &[u8],
     edition: Edition,
     listed: &mut [u16; 8192],
@@ -119,25 +125,25 @@ fn answer_record(
     out: &mut [u8; 196608],
 ) -> bool {
     let named = record_reply::put_edition(edition, out);
-    if !write(stdout, out, named) {
+    if !write(rt, out, named) {
         return false;
     }
     let n = record_reply::reply(record, edition, listed, strict, out);
-    write(stdout, out, n)
+    write(rt, out, n)
 }
 
 // `HALF FULL TEXT`.
-fn answer_sent(stdout: &impl Print, line: &[u8], out: &mut [u8; 196608]) -> bool {
+fn answer_sent(rt: &(impl Print + Eprint), line: &[u8], out: &mut [u8; 196608]) -> bool {
     let second = fields::inner::after(line, 0, b' ');
     let third = fields::inner::after(line, second, b' ');
     let half = counters::at(line, 0);
     let full = counters::at(line, second);
     if half > 65535 {
-        return refused(stdout, out);
+        return refused(rt, out);
     }
     if full > 65535 {
-        return refused(stdout, out);
+        return refused(rt, out);
     }
     let n = record_reply::send(&line[third..], half as u16, full as u16, out);
-    write(stdout, out, n)
+    write(rt, out, n)
 }

@@ -5,7 +5,7 @@ ghost use Rattle.std.specs.Prelude.{◌≡◌, ℕ, ◌≤◌, length};
 ghost use Rattle.io.specs.Counts.{IsPrefixLen};
 ghost use Rattle.solutions.specs.declared.Filled.TheVariants.{Bytes};
 
-use std::io::{Input, Read};
+use std::io::{ErrorKind, Input, Read};
 
 // How many bytes of the file came, or a read that failed.
 #[derive(Drop)]
@@ -53,14 +53,19 @@ fn answer(rt: &(impl Print + Eprint), file: &[u8; 65536], n: usize, out: &mut [u
 {
     let sent: &[u8] = file;
     let len = solution_reply::reply(&sent[..n], out);
-    if !write(rt, out, len) {
-        let _ = eprintln!(rt; "solutions: the output cannot be written");
-    }
+    write(rt, out, len);
 }
 
-fn write(stdout: &impl Print, out: &[u8; 196608], n: usize) -> bool
+// False where it cannot be written, which is told, but where the reader is gone.
+fn write(rt: &(impl Print + Eprint), out: &[u8; 196608], n: usize) -> bool
     requires { IsPrefixLen n out.now }
 {
     let printed: &[u8] = out;
-    stdout.write_all(&printed[..n]).is_ok()
+    let Err(why) = rt.write_all(&printed[..n]) else {
+        return true;
+    };
+    if !matches!(why.kind(), ErrorKind::BrokenPipe) {
+        let _ = eprintln!(rt; "solutions: the output cannot be written");
+    }
+    false
 }

@@ -14,7 +14,7 @@ use retraction_gen::{Next, RetractionGen};
 use screen::Screen;
 use slots::Listed;
 use std::env::FillError;
-use std::io::{Input, IsTerminal};
+use std::io::{ErrorKind, Input, IsTerminal};
 use std::rt::Env;
 
 mod keys; // keys.rt: the keys of a terminal
@@ -265,14 +265,16 @@ fn is_end(answer: Next) -> bool {
     }
 }
 
-// The first n bytes, in one write; false where they cannot be written.
+// The first n bytes, in one write; false where they cannot be written, which is told, but where the reader is gone.
 fn write(rt: &(impl Print + Eprint), out: &[u8; 196608], n: usize) -> bool
     requires { IsPrefixLen n out.now }
 {
-    let text: &[u8] = out;
-    if rt.write_all(&text[..n]).is_ok() {
+    let printed: &[u8] = out;
+    let Err(why) = rt.write_all(&printed[..n]) else {
         return true;
+    };
+    if !matches!(why.kind(), ErrorKind::BrokenPipe) {
+        let _ = eprintln!(rt; "step: the output cannot be written");
     }
-    let _ = eprintln!(rt; "step: the output cannot be written");
     false
 }
