@@ -6,6 +6,9 @@ use super::{Answer, Told, Why};
 use board::RetractableBoard;
 use refusal::Verdict;
 
+// The fewest plies that are asked for.
+const LEAST: u8 = 1;
+
 // Refusals 1 to 7, then 19, then the ply of the side that has moved last.
 pub fn history_of(t: &[u64; 4096], b: RetractableBoard, depth: u8) -> Answer
     requires { IsBetween t.now }
@@ -15,7 +18,7 @@ pub fn history_of(t: &[u64; 4096], b: RetractableBoard, depth: u8) -> Answer
     match v {
         Verdict::Refused(why) => Answer::Refused(Why::Board(why)),
         Verdict::Accepted => {
-            if depth < 1 {
+            if depth < LEAST {
                 return Answer::Refused(Why::Depth);
             }
             if depth > 4 {

@@ -229,6 +229,11 @@ pub run_done : (s : ℕ) (t : List ℕ) (i : ℕ) → i ≡ length t → count_r
 unfolding count_run
 run_done s t i e = rw (e, drop-length)
 
+-- a further digit behind a 0 makes no counter
+pub step_zero : (s b : ℕ) → s ≡ 0 → 48 ≤ b → b ≤ 57 → count_step s b ≡ 10002
+unfolding count_step
+step_zero s b z h k = simp (z, le-ltb b 48 h, le-ltb 57 b k)
+
 -- the code's tests
 pub step_value : (s b : ℕ) → (s ≡ 10002 → ⊥) → 48 ≤ b → b ≤ 57 → (s ≡ 10001 → ⊥) → (s ≡ 0 → ⊥) → count_step s b ≡ min (10 * s + (b - 48)) 10000
 unfolding count_step

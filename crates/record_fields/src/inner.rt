@@ -24,6 +24,7 @@ pub fn last(t: &[u8], n: usize) -> usize
 }
 
 // One more byte of a counter, of which `s` was read: 10,001 stands for no byte yet, 10,002 for no counter.
+#[tactic(auto, using(crate::proofs::Decimals::step_zero))]
 fn count_step(s: u16, b: u8) -> u16
     requires { s ≤ 10002 }
     ensures { (result ≡ count_step s b) × (result ≤ 10002) }

@@ -56,6 +56,10 @@ min_said f h n = go (in_range h n) refl
         ap₂ (record_said f) a b
     go false e = rw (min_range h n, e)
 
+-- a counter that is none
+pub over_half : (raw : Raw) (h n : ℕ) → 10000 < h → answer_of raw h n ≡ no_record (Base Text)
+over_half raw h n l = rw (lt-ltb 10000 h l)
+
 -- the answer, from what the parts gave
 module _ (ed : Edition) (t a m b : List ℕ) (cut : t ≡ (a ++ (32 ∷ m)) ++ (32 ∷ b)) (fm : Free m) (fb : Free b) (raw : Raw) (x y : ℕ) (r : Recorded)
     (four : Answers ed a raw) (res : r ≡ answer_of raw x y) where

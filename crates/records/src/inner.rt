@@ -63,6 +63,7 @@ fn ranged(t: &[u64; 4096], p: Position, half: u16, full: u16) -> Recorded
 }
 
 // The same, behind 14 where no pawn passed over what is named.
+#[tactic(auto, using(crate::proofs::Giving::not_known, crate::proofs::Giving::is_known_lem))]
 fn known(t: &[u64; 4096], p: Position, half: u16, full: u16) -> Recorded
     requires { IsBetween t.now }
     ensures { result ≡ known_said p half full }
@@ -75,6 +76,7 @@ fn known(t: &[u64; 4096], p: Position, half: u16, full: u16) -> Recorded
 }
 
 // What is answered to a text whose four fields are `raw` and whose counters are read as `half` and `full`.
+#[tactic(auto, using(crate::proofs::Answering::over_half))]
 fn answer(t: &[u64; 4096], raw: Raw, half: u16, full: u16) -> Recorded
     requires { IsBetween t.now }
     ensures { result ≡ answer_of raw half full }

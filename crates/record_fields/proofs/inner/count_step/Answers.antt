@@ -21,12 +21,8 @@ pub returns-then-s-eq10001 : goal.returns-then-s-eq10001
 unfolding count_step
 returns-then-s-eq10001 c = (simp (ne_eqb _ _ c.if-s-eq10002.false, le-ltb _ _ c.if-b-lt48.false, le-ltb _ _ c.if-b-gt57.false, eq-eqb _ _ c.if-s-eq10001.true), omega arith)
 
-pub returns-then-s-eq0 : goal.returns-then-s-eq0
-unfolding count_step
-returns-then-s-eq0 c = (simp (ne_eqb _ _ c.if-s-eq10002.false, le-ltb _ _ c.if-b-lt48.false, le-ltb _ _ c.if-b-gt57.false, ne_eqb _ _ c.if-s-eq10001.false, eq-eqb _ _ c.if-s-eq0.true), omega arith)
-
 pub returns-then-v-lt10000 : goal.returns-then-v-lt10000
-returns-then-v-lt10000 c = (omega (arith, step_value c.args.s c.args.b c.if-s-eq10002.false (omega arith) (omega arith) c.if-s-eq10001.false c.if-s-eq0.false), omega arith)
+returns-then-v-lt10000 c = (omega (arith, step_value c.args.s c.args.b c.if-s-eq10002.false (omega arith) (omega arith) c.if-s-eq10001.false (λ e. omega arith)), omega arith)
 
 pub returns-else-v-lt10000 : goal.returns-else-v-lt10000
-returns-else-v-lt10000 c = (omega (arith, step_value c.args.s c.args.b c.if-s-eq10002.false (omega arith) (omega arith) c.if-s-eq10001.false c.if-s-eq0.false), omega arith)
+returns-else-v-lt10000 c = (omega (arith, step_value c.args.s c.args.b c.if-s-eq10002.false (omega arith) (omega arith) c.if-s-eq10001.false (λ e. omega arith)), omega arith)
