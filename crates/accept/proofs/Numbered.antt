@@ -12,19 +12,18 @@ use Rattle.laws.specs.Positions.{Rights}
 use Rattle.laws.specs.Acceptance.{kings_ok, pawns_ok, rights_ok, state_ok, quiet}
 use Rattle.laws.specs.Boards.{men_ok, men_in, pos_at}
 use Rattle.refusal.specs.declared.Refusal.TheVariants.{Men as men, Kings as kings, Pawn as pawn, Rights as rights, Passant as passant, Check as check}
-use Rattle.refusal.specs.declared.Verdict.{Verdict}
-use Rattle.refusal.specs.declared.Verdict.TheVariants.{Accepted, Refused}
-use Rattle.refusal.specs.Refusals.{verdict_number, unless, and_then}
+use Rattle.refusal.specs.Refusals.{verdict_number, unless, and_then, Verdict, nothing_refused}
 use Rattle.refusal.specs.Said.{◌else◌, first_failing}
 use Rattle.accept.specs.Verdicts.{first_refused, third_of, five_of, judged_of, five_tests, raw_tests}
 use Rattle.squares.proofs.Testing.{left, right, agree, agree_eq}
 use Rattle.laws.proofs.Cases.{by_cases}
 use Rattle.laws.proofs.Passes.{Passes}
 use Rattle.refusal.proofs.Saying.{then_number, both_accept, test_passes}
+use Rattle.std.specs.Prelude.{Err}
 
 -- the number of the verdict of six tests
 abbrev number_by : (a b d e f g : Bool) → ℕ
-number_by a b d e f g = verdict_number (and_then (unless a men (unless b kings (first_refused (not d) (not e) (not f)))) (unless g check Accepted))
+number_by a b d e f g = verdict_number (and_then (unless a men (unless b kings (first_refused (not d) (not e) (not f)))) (unless g check nothing_refused))
 
 -- exactly when each number is given: the tests of 1 to 6 are a b d e f g
 pub record Exactly (n : ℕ) (a b d e f g : Bool) : Type 0 where
@@ -62,11 +61,11 @@ module _ (p : Position) where
   abbrev five : Bool → Bool → Verdict
   five t u = unless t men (unless u kings (third_of p))
 
-  pub is_men : men_ok p.pieces p.colors ≡ false → Refused men ≡ five_of p
+  pub is_men : men_ok p.pieces p.colors ≡ false → Err men ≡ five_of p
   unfolding five_of
   is_men e = ap (λ (t : Bool). five t (kings_ok m)) (sym e)
 
-  pub is_kings : men_ok p.pieces p.colors ≡ true → kings_ok m ≡ false → Refused kings ≡ five_of p
+  pub is_kings : men_ok p.pieces p.colors ≡ true → kings_ok m ≡ false → Err kings ≡ five_of p
   unfolding five_of
   is_kings e f = ap₂ five (sym e) (sym f)
 
@@ -79,14 +78,14 @@ module _ (p : Position) where
     pub men_pass : men_ok p.pieces p.colors ≡ true
     pub passes : Passes (pos_at p)
 
-  five_all : five_of p ≡ Accepted → (men_ok p.pieces p.colors and kings_ok m and pawns_ok m and rights_ok m ρ and state_ok p.terms.edition m p.turn p.passant) ≡ true
+  five_all : five_of p ≡ nothing_refused → (men_ok p.pieces p.colors and kings_ok m and pawns_ok m and rights_ok m ρ and state_ok p.terms.edition m p.turn p.passant) ≡ true
   unfolding five_of third_of ◌and◌
   five_all h =
       sym (agree_eq _ _ (by_cases 5 (λ a b d e f. agree (eqb (verdict_number (unless a men (unless b kings (first_refused (not d) (not e) (not f))))) 0) (a and b and d and e and f)) refl
       (men_ok p.pieces p.colors) (kings_ok m) (pawns_ok m) (rights_ok m ρ) (state_ok p.terms.edition m p.turn p.passant)))
       ∙ ap (λ (v : Verdict). eqb (verdict_number v) 0) h
 
-  pub five_passes : five_of p ≡ Accepted → Five
+  pub five_passes : five_of p ≡ nothing_refused → Five
   five_passes h = let all = five_all h in record {
     men_pass = left _ _ (left _ _ (left _ _ (left _ _ all)));
     passes = record {
@@ -98,15 +97,15 @@ module _ (p : Position) where
   }
 
   -- and back
-  pub five_accepts : Five → five_of p ≡ Accepted
+  pub five_accepts : Five → five_of p ≡ nothing_refused
   unfolding five_of third_of
   five_accepts f = rw (f.men_pass, f.passes.kings, f.passes.pawns, f.passes.rights, f.passes.state)
 
-pub judged_passes : (p : Position) → judged_of p ≡ Accepted → Five p × (quiet (men_in p) p.turn ≡ true)
+pub judged_passes : (p : Position) → judged_of p ≡ nothing_refused → Five p × (quiet (men_in p) p.turn ≡ true)
 unfolding judged_of
 judged_passes p h =
-    let v = both_accept (five_of p) (unless (quiet (men_in p) p.turn) check Accepted) h in
-    (five_passes p v.0, (test_passes (quiet (men_in p) p.turn) check Accepted v.1).0)
+    let v = both_accept (five_of p) (unless (quiet (men_in p) p.turn) check nothing_refused) h in
+    (five_passes p v.0, (test_passes (quiet (men_in p) p.turn) check nothing_refused v.1).0)
 
 module _ (p : Position) where
   -- 1 to 5, and 1 to 6

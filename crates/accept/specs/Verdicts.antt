@@ -1,12 +1,10 @@
 -- Refusals 1 to 6 in order: the tests with their numbers, and the verdict that the code gives.
-use Rattle.std.specs.Prelude.{Bool, cond, not, List, [], ◌∷◌, ◌++◌}
+use Rattle.std.specs.Prelude.{Bool, cond, not, List, [], ◌∷◌, ◌++◌, Err}
 use Rattle.laws.specs.declared.Position.{Position}
 use Rattle.laws.specs.Acceptance.{kings_ok, pawns_ok, rights_ok, state_ok, quiet}
 use Rattle.laws.specs.Boards.{men_ok, men_in, pos_at}
 use Rattle.refusal.specs.declared.Refusal.TheVariants.{Men as men, Kings as kings, Pawn as pawn, Rights as rights, Passant as passant, Check as check}
-use Rattle.refusal.specs.declared.Verdict.{Verdict}
-use Rattle.refusal.specs.declared.Verdict.TheVariants.{Accepted, Refused}
-use Rattle.refusal.specs.Refusals.{unless, and_then}
+use Rattle.refusal.specs.Refusals.{unless, and_then, Verdict, nothing_refused}
 use Rattle.refusal.specs.Said.{Test, ◌else◌}
 
 -- "Replay .. tests 1 to 5"
@@ -21,7 +19,7 @@ raw_tests p = five_tests p ++ ((quiet (men_in p) p.turn else check) ∷ [])
 
 -- 3 to 5, by tests that fail
 abbrev pub first_refused : Bool → Bool → Bool → Verdict
-first_refused pawns rights' state = cond pawns (Refused pawn) (cond rights' (Refused rights) (cond state (Refused passant) Accepted))
+first_refused pawns rights' state = cond pawns (Err pawn) (cond rights' (Err rights) (cond state (Err passant) nothing_refused))
 
 unfoldable pub third_of : Position → Verdict
 third_of p = first_refused (not (pawns_ok (men_in p))) (not (rights_ok (men_in p) (pos_at p).rights)) (not (state_ok p.terms.edition (men_in p) p.turn p.passant))
@@ -32,4 +30,4 @@ five_of p = unless (men_ok p.pieces p.colors) men (unless (kings_ok (men_in p)) 
 
 -- 1 to 6 in order
 unfoldable pub judged_of : Position → Verdict
-judged_of p = and_then (five_of p) (unless (quiet (men_in p) p.turn) check Accepted)
+judged_of p = and_then (five_of p) (unless (quiet (men_in p) p.turn) check nothing_refused)

@@ -13,15 +13,15 @@ fn first(pawns: bool, rights: bool, passant: bool) -> Verdict
     ensures { result ≡ first_refused pawns rights passant }
 {
     if pawns {
-        return Verdict::Refused(Refusal::Pawn);
+        return Err(Refusal::Pawn);
     }
     if rights {
-        return Verdict::Refused(Refusal::Rights);
+        return Err(Refusal::Rights);
     }
     if passant {
-        return Verdict::Refused(Refusal::Passant);
+        return Err(Refusal::Passant);
     }
-    Verdict::Accepted
+    Ok(())
 }
 
 // Refusals 3 to 5.
@@ -42,10 +42,10 @@ pub fn five(p: Position) -> Verdict
     let pieces = p.pieces;
     let colors = p.colors;
     if men::inner::bad_men(pieces, colors) {
-        return Verdict::Refused(Refusal::Men);
+        return Err(Refusal::Men);
     }
     if refusals::bad_kings(p) {
-        return Verdict::Refused(Refusal::Kings);
+        return Err(Refusal::Kings);
     }
     third(p)
 }
@@ -56,15 +56,15 @@ pub fn judge(p: Position) -> Verdict
 {
     let v = five(p);
     match v {
-        Verdict::Refused(r) => Verdict::Refused(r),
-        Verdict::Accepted => {
+        Err(r) => Err(r),
+        Ok(()) => {
             let pieces = p.pieces;
             let colors = p.colors;
             let turn = p.turn;
             if pins::inner::bad_check(pieces, colors, turn) {
-                return Verdict::Refused(Refusal::Check);
+                return Err(Refusal::Check);
             }
-            Verdict::Accepted
+            Ok(())
         }
     }
 }

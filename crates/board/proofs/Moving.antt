@@ -15,8 +15,7 @@ use Rattle.laws.specs.Acceptance.{kings_ok, accepted}
 use Rattle.laws.specs.Unmaking.{unmade}
 use Rattle.laws.specs.Boards.{men_at, men_in, pos_at, kind_sets, color_sets, Clean, fields_of, pos_of, board_of}
 use Rattle.refusal.specs.declared.Refusal.TheVariants.{Stale, Source, Target, Held, Step}
-use Rattle.refusal.specs.declared.Verdict.TheVariants.{Accepted}
-use Rattle.refusal.specs.Refusals.{verdict_number, unless, and_then}
+use Rattle.refusal.specs.Refusals.{verdict_number, unless, and_then, nothing_refused}
 use Rattle.accept.specs.Verdicts.{five_of, five_tests}
 use Rattle.refusal.specs.Said.{◌else◌, first_failing}
 use Rattle.laws.specs.declared.Position.{Position}
@@ -45,9 +44,9 @@ use Rattle.unmake.proofs.Returned.{accepted_can, answer_is, unmade_shown, unmade
 use Rattle.replay.proofs.Returning.{replayed_shown, replayed_clean, answer_forward, Returns, unmake_replay}
 use Rattle.board.proofs.Passing.{gate_number, gate_passed, worked_whole}
 
-pub replay_five : (b : RetractableBoard) → replay_gate b ≡ Accepted → five_of (position_on b) ≡ Accepted
+pub replay_five : (b : RetractableBoard) → replay_gate b ≡ nothing_refused → five_of (position_on b) ≡ nothing_refused
 unfolding replay_gate
-replay_five b h = (both_accept (five_of (position_on b)) (unless (fresh_on b) Stale Accepted) h).0
+replay_five b h = (both_accept (five_of (position_on b)) (unless (fresh_on b) Stale nothing_refused) h).0
 
 -- boards of the same fields
 laws_one : (x y : RetractableBoard) → to_laws x ≡ to_laws y → x ≡ y
@@ -65,11 +64,11 @@ laws_one x y e =
       terms = (e i).terms;
     }
 
-module _ (b : RetractableBoard) (r : ChessRetraction) (h : gate_of b ≡ Accepted) where
+module _ (b : RetractableBoard) (r : ChessRetraction) (h : gate_of b ≡ nothing_refused) where
   lawful : accepted (pos_at (position_on b)) ≡ true
   lawful = (gate_passed b h).lawful
 
-  module _ (done : (unmade_to (pos_on b) r).verdict ≡ Accepted) where
+  module _ (done : (unmade_to (pos_on b) r).verdict ≡ nothing_refused) where
     can : can_retract (pos_on b) r ≡ true
     can = accepted_can (pos_on b) r done
 
@@ -129,15 +128,15 @@ module _ (b : RetractableBoard) (r : ChessRetraction) (h : gate_of b ≡ Accepte
             ∙ sym worked_shown)
 
 -- replay answers only a possible move
-did : (p : Pos) (r : ChessRetraction) (k : ℕ) → (replay_to p r k).verdict ≡ Accepted → possible_for p r k ≡ true
+did : (p : Pos) (r : ChessRetraction) (k : ℕ) → (replay_to p r k).verdict ≡ nothing_refused → possible_for p r k ≡ true
 unfolding replay_to
 did p r k = go (possible_for p r k)
   where
-    go : (t : Bool) → (cond t (answered (replayed_for p r k)) (refused Step)).verdict ≡ Accepted → t ≡ true
+    go : (t : Bool) → (cond t (answered (replayed_for p r k)) (refused Step)).verdict ≡ nothing_refused → t ≡ true
     go true e = refl
-    go false e = (test_passes false Step Accepted e).0
+    go false e = (test_passes false Step nothing_refused e).0
 
-pub replayed_sound : (b : RetractableBoard) (r : ChessRetraction) (k : ℕ) → Clean b.pieces b.colors → replay_gate b ≡ Accepted
+pub replayed_sound : (b : RetractableBoard) (r : ChessRetraction) (k : ℕ) → Clean b.pieces b.colors → replay_gate b ≡ nothing_refused
     → Kept (replay_to (pos_on b) r k).verdict (replay_to (pos_on b) r k).position
 unfolding possible_for
 replayed_sound b r k ok h done =
@@ -178,24 +177,24 @@ unfolding replay_gate
 earlier_number b = then_number (five_of (position_on b)) (five_tests (position_on b)) (fresh_on b) Stale (five_number (position_on b))
 
 pub replay_number : (b : RetractableBoard) (r : ChessRetraction) (k : ℕ)
-    → verdict_number (and_then (replay_gate b) (unless (possible_for (pos_on b) r k) Step Accepted)) ≡ first_failing (replay_tests b r k)
+    → verdict_number (and_then (replay_gate b) (unless (possible_for (pos_on b) r k) Step nothing_refused)) ≡ first_failing (replay_tests b r k)
 replay_number b r k = then_number (replay_gate b) (earlier_tests b) (possible_for (pos_on b) r k) Step (earlier_number b)
 
 -- the answer of replay, with what the gate says
-pub replayed_is : (b : RetractableBoard) (r : ChessRetraction) (k : ℕ) → replay_gate b ≡ Accepted → boarded_of (replay_to (pos_on b) r k) ≡ replayed_board b r k
+pub replayed_is : (b : RetractableBoard) (r : ChessRetraction) (k : ℕ) → replay_gate b ≡ nothing_refused → boarded_of (replay_to (pos_on b) r k) ≡ replayed_board b r k
 unfolding boarded_of replay_to
 replayed_is b r k h = rw h (go (possible_for (pos_on b) r k))
   where
     go : (t : Bool)
         → boarded_by (cond t (answered (replayed_for (pos_on b) r k)) (refused Step)).verdict (worked_of (cond t (answered (replayed_for (pos_on b) r k)) (refused Step)).position)
-        ≡ boarded_by (unless t Step Accepted) (replayed_on b r k)
+        ≡ boarded_by (unless t Step nothing_refused) (replayed_on b r k)
     go true = refl
     go false = refl
 
 -- the board before a retraction
-module _ (b : RetractableBoard) (r : ChessRetraction) (ok : Clean b.pieces b.colors) (h : gate_of b ≡ Accepted) (done : (unmade_to (pos_on b) r).verdict ≡ Accepted) where
+module _ (b : RetractableBoard) (r : ChessRetraction) (ok : Clean b.pieces b.colors) (h : gate_of b ≡ nothing_refused) (done : (unmade_to (pos_on b) r).verdict ≡ nothing_refused) where
   -- "the un-made board fails none of 1 to 5 and 7"
-  pub unmade_passes_on : replay_gate (unmade_on b r) ≡ Accepted
+  pub unmade_passes_on : replay_gate (unmade_on b r) ≡ nothing_refused
   unfolding replay_gate
   unmade_passes_on = rw (five_accepts (unmade_for (pos_on b) r) (five b r h done), fresh_worked (unmade_for (pos_on b) r))
 
@@ -203,7 +202,7 @@ module _ (b : RetractableBoard) (r : ChessRetraction) (ok : Clean b.pieces b.col
   returned = unmake_replay (position_on b) r ok (accepts (pos_on b) (gate_passed b h).lawful).rights done
 
   -- "replay after un-make gives back every square, the rights and the turn": the whole board but for its state
-  pub replay_gives_back : (st : EnPassantFlag) × (replayed_board (unmade_on b r) r (kind_today (pos_on b) r) ≡ record { verdict = Accepted; board = with_passant b st })
+  pub replay_gives_back : (st : EnPassantFlag) × (replayed_board (unmade_on b r) r (kind_today (pos_on b) r) ≡ record { verdict = nothing_refused; board = with_passant b st })
   unfolding boarded_of
   replay_gives_back = (
     u.position.passant,
@@ -219,7 +218,7 @@ module _ (b : RetractableBoard) (r : ChessRetraction) (ok : Clean b.pieces b.col
           passant = u.position.passant;
           terms = returned.terms_back i;
         })))
-        ∙ ap (λ (x : RetractableBoard). record { verdict = Accepted; board = with_passant x u.position.passant }) (worked_whole b h),
+        ∙ ap (λ (x : RetractableBoard). record { verdict = nothing_refused; board = with_passant x u.position.passant }) (worked_whole b h),
   )
     where
       u : Positioned

@@ -11,27 +11,26 @@ use Rattle.laws.specs.Acceptance.{kings_ok, pawns_ok, rights_ok, state_ok, quiet
 use Rattle.laws.specs.Boards.{men_ok}
 use Rattle.refusal.specs.declared.Refusal.{Refusal}
 use Rattle.refusal.specs.declared.Refusal.TheVariants.{Men as men, Kings as kings, Pawn as pawn, Rights as rights, Passant as passant, Check as check, Stale}
-use Rattle.refusal.specs.declared.Verdict.{Verdict}
-use Rattle.refusal.specs.declared.Verdict.TheVariants.{Accepted, Refused}
-use Rattle.refusal.specs.Refusals.{number_of, verdict_number}
+use Rattle.refusal.specs.Refusals.{number_of, verdict_number, Verdict, nothing_refused}
 use Rattle.refusal.specs.Said.{◌else◌, first_failing, Said, says, number_said, told, fitting, behind}
 use Rattle.board.specs.declared.RetractableBoard.{RetractableBoard}
 use Rattle.board.specs.Gate.{men_on, pos_on, fresh_on, gate_of, board_tests}
 use Rattle.laws.proofs.Cases.{by_cases}
 use Rattle.refusal.proofs.Saying.{verdict_one}
 use Rattle.board.proofs.Passing.{gate_number}
+use Rattle.std.specs.Prelude.{Err}
 
 -- what the gate refuses, and where it passes
 module _ (b : RetractableBoard) (v : Verdict) (e : v ≡ gate_of b) where
-  pub gate_refuses : (r : Refusal) → v ≡ Refused r → number_of r ≡ first_failing (board_tests b)
+  pub gate_refuses : (r : Refusal) → v ≡ Err r → number_of r ≡ first_failing (board_tests b)
   gate_refuses r h = ap verdict_number (sym h ∙ e) ∙ gate_number b
 
-  pub gate_passes : v ≡ Accepted → first_failing (board_tests b) ≡ 0
+  pub gate_passes : v ≡ nothing_refused → first_failing (board_tests b) ≡ 0
   gate_passes h = sym (ap verdict_number (sym h ∙ e) ∙ gate_number b)
 
 -- and back: the gate by the number
-pub passed_gate : (b : RetractableBoard) → first_failing (board_tests b) ≡ 0 → gate_of b ≡ Accepted
-passed_gate b h = verdict_one (gate_of b) Accepted (gate_number b ∙ h)
+pub passed_gate : (b : RetractableBoard) → first_failing (board_tests b) ≡ 0 → gate_of b ≡ nothing_refused
+passed_gate b h = verdict_one (gate_of b) nothing_refused (gate_number b ∙ h)
 
 -- 1 to 7 are numbers below 8
 board_number : (b : RetractableBoard) → first_failing (board_tests b) < 8

@@ -14,8 +14,7 @@ use Rattle.laws.specs.Attacks.{union_of, checkers_of, pins_of}
 use Rattle.laws.specs.Acceptance.{kings_ok, pawns_ok, rights_ok, state_ok, quiet, accepted}
 use Rattle.laws.specs.Boards.{men_ok, Clean, accepted_board}
 use Rattle.refusal.specs.declared.Refusal.TheVariants.{Men as men, Kings as kings, Check as check, Stale, Source, Passant}
-use Rattle.refusal.specs.declared.Verdict.TheVariants.{Accepted}
-use Rattle.refusal.specs.Refusals.{verdict_number, unless, and_then}
+use Rattle.refusal.specs.Refusals.{verdict_number, unless, and_then, nothing_refused}
 use Rattle.accept.specs.Verdicts.{first_refused, third_of, five_of, judged_of, raw_tests}
 use Rattle.refusal.specs.Said.{first_failing}
 use Rattle.board.specs.declared.RetractableBoard.{RetractableBoard}
@@ -40,10 +39,10 @@ module _ (p : Position) (six : length p.pieces ≡ 6) (two : length p.colors ≡
   sound_by : Five p → Sound p
   sound_by f = record { clean = clean p.pieces p.colors six two kinds colours f.men_pass; kings = f.passes.kings }
 
-  pub five_sound : five_of p ≡ Accepted → Sound p
+  pub five_sound : five_of p ≡ nothing_refused → Sound p
   five_sound h = sound_by (five_passes p h)
 
-  pub judged_sound : judged_of p ≡ Accepted → Sound p
+  pub judged_sound : judged_of p ≡ nothing_refused → Sound p
   judged_sound h = sound_by (judged_passes p h).0
 
 -- what raw men answer, by the verdict
@@ -54,11 +53,11 @@ pub new_is : (p : Position) (r : Boarded) → Boards (raw_tests p) (worked_of p)
 new_is p = boards_is (judged_of p) (raw_tests p) (worked_of p) (judged_number p)
 
 -- a board that passes 1 to 7
-pub gate_judged : (b : RetractableBoard) → gate_of b ≡ Accepted → judged_of (position_on b) ≡ Accepted
+pub gate_judged : (b : RetractableBoard) → gate_of b ≡ nothing_refused → judged_of (position_on b) ≡ nothing_refused
 unfolding gate_of
-gate_judged b h = (both_accept (judged_of (position_on b)) (unless (fresh_on b) Stale Accepted) h).0
+gate_judged b h = (both_accept (judged_of (position_on b)) (unless (fresh_on b) Stale nothing_refused) h).0
 
-pub gate_sound : (b : RetractableBoard) → length b.pieces ≡ 6 → length b.colors ≡ 2 → Bounded b.pieces → Bounded b.colors → gate_of b ≡ Accepted → Sound (position_on b)
+pub gate_sound : (b : RetractableBoard) → length b.pieces ≡ 6 → length b.colors ≡ 2 → Bounded b.pieces → Bounded b.colors → gate_of b ≡ nothing_refused → Sound (position_on b)
 gate_sound b six two bp bc h = judged_sound (position_on b) six two bp bc (gate_judged b h)
 
 pub record Passed (b : RetractableBoard) : Type 0 where
@@ -68,7 +67,7 @@ pub record Passed (b : RetractableBoard) : Type 0 where
   pub checkers_are : b.checkers ≡ checkers_of (men_on b) b.turn
   pub pins_are : b.pinned ≡ pins_of (men_on b) b.turn
 
-pub gate_passed : (b : RetractableBoard) → gate_of b ≡ Accepted → Passed b
+pub gate_passed : (b : RetractableBoard) → gate_of b ≡ nothing_refused → Passed b
 unfolding gate_of fresh_on
 gate_passed b h = record {
   men_agree = j.0.men_pass;
@@ -85,20 +84,20 @@ gate_passed b h = record {
     five = j.0.passes
 
     fresh : fresh_on b ≡ true
-    fresh = (test_passes (fresh_on b) Stale Accepted (both_accept (judged_of (position_on b)) (unless (fresh_on b) Stale Accepted) h).1).0
+    fresh = (test_passes (fresh_on b) Stale nothing_refused (both_accept (judged_of (position_on b)) (unless (fresh_on b) Stale nothing_refused) h).1).0
 
 -- the Laws' record of a board is accepted exactly when the gate lets the board pass
-pub gate_by : (b : RetractableBoard) → accepted_board (to_laws b) ≡ true → gate_of b ≡ Accepted
+pub gate_by : (b : RetractableBoard) → accepted_board (to_laws b) ≡ true → gate_of b ≡ nothing_refused
 unfolding gate_of judged_of five_of third_of fresh_on
 gate_by b h =
     let a = accepts (pos_on b) (right _ _ (left _ _ h)) in rw (left _ _ (left _ _ h), a.kings, a.pawns, a.rights, a.state, a.calm, right _ _ h)
 
-pub accepted_by_gate : (b : RetractableBoard) → gate_of b ≡ Accepted → accepted_board (to_laws b) ≡ true
+pub accepted_by_gate : (b : RetractableBoard) → gate_of b ≡ nothing_refused → accepted_board (to_laws b) ≡ true
 accepted_by_gate b h =
     let p : Passed b = gate_passed b h in both (both p.men_agree p.lawful) (both (both (eq-eqb _ _ p.union_is) (eq-eqb _ _ p.checkers_are)) (eq-eqb _ _ p.pins_are))
 
 -- it is worked out from its own fields
-pub worked_whole : (b : RetractableBoard) → gate_of b ≡ Accepted → worked_of (position_on b) ≡ b
+pub worked_whole : (b : RetractableBoard) → gate_of b ≡ nothing_refused → worked_of (position_on b) ≡ b
 worked_whole b h =
     let p = gate_passed b h in
     λ i. record {
@@ -126,10 +125,10 @@ pub state_number : (b : RetractableBoard) (st : EnPassantFlag) → verdict_numbe
 state_number b st = then_number (gate_of b) (board_tests b) (state_ok b.terms.edition (men_on b) b.turn st) Passant (gate_number b)
 
 -- a square that may be asked about
-pub ask_accepted : (b : RetractableBoard) (sq : ℕ) → ask_gate b sq ≡ Accepted → (gate_of b ≡ Accepted) × (ltb sq 64 ≡ true)
+pub ask_accepted : (b : RetractableBoard) (sq : ℕ) → ask_gate b sq ≡ nothing_refused → (gate_of b ≡ nothing_refused) × (ltb sq 64 ≡ true)
 ask_accepted b sq h =
-    let k = both_accept (gate_of b) (unless (ltb sq 64) Source Accepted) h in
-    (k.0, (test_passes (ltb sq 64) Source Accepted k.1).0)
+    let k = both_accept (gate_of b) (unless (ltb sq 64) Source nothing_refused) h in
+    (k.0, (test_passes (ltb sq 64) Source nothing_refused k.1).0)
 
 -- 7 is given exactly when 1 to 6 pass and union, checkers or pins are not those of the men
 pub stale_exactly : (b : RetractableBoard)
@@ -137,12 +136,12 @@ pub stale_exactly : (b : RetractableBoard)
 unfolding gate_of judged_of five_of third_of ◌and◌
 stale_exactly b =
     agree_eq _ _ (by_cases 7
-    (λ m k p r s q f. agree (eqb (verdict_number (and_then (and_then (unless m men (unless k kings (first_refused (not p) (not r) (not s)))) (unless q check Accepted)) (unless f Stale Accepted))) 7)
+    (λ m k p r s q f. agree (eqb (verdict_number (and_then (and_then (unless m men (unless k kings (first_refused (not p) (not r) (not s)))) (unless q check nothing_refused)) (unless f Stale nothing_refused))) 7)
     (m and (k and p and r and s and q) and not f)) refl
     (men_ok b.pieces b.colors) (kings_ok (men_on b)) (pawns_ok (men_on b)) (rights_ok (men_on b) (pos_on b).rights) (state_ok b.terms.edition (men_on b) b.turn b.passant) (quiet (men_on b) b.turn) (fresh_on b))
 
 -- the kind as the sets have it
-pub kind_read_lem : (b : RetractableBoard) (sq : ℕ) → Clean b.pieces b.colors → gate_of b ≡ Accepted → sq < 64 → kind_read b sq ≡ kind_on (men_on b sq)
+pub kind_read_lem : (b : RetractableBoard) (sq : ℕ) → Clean b.pieces b.colors → gate_of b ≡ nothing_refused → sq < 64 → kind_read b sq ≡ kind_on (men_on b sq)
 kind_read_lem b sq ok h l = go (men_on b sq) refl
   where
     stands : has b.combined sq ≡ not (is_empty (men_on b sq))

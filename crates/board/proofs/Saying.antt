@@ -11,9 +11,7 @@ use Rattle.squares.specs.Squares.{flag}
 use Rattle.laws.specs.declared.Piece.{Piece}
 use Rattle.laws.specs.declared.Piece.TheVariants.{Pawn, Knight, Bishop, Rook, Queen, King}
 use Rattle.laws.specs.Men.{kind_number}
-use Rattle.refusal.specs.declared.Verdict.{Verdict}
-use Rattle.refusal.specs.declared.Verdict.TheVariants.{Accepted, Refused}
-use Rattle.refusal.specs.Refusals.{verdict_number}
+use Rattle.refusal.specs.Refusals.{verdict_number, Verdict}
 use Rattle.refusal.specs.Said.{Test, first_failing, Said, says, told, behind}
 use Rattle.board.specs.declared.RetractableBoard.{RetractableBoard}
 use Rattle.board.specs.declared.Boarded.{Boarded}
@@ -30,6 +28,7 @@ use Rattle.board.specs.Gate.{no_board, kept_by, boarded_by}
 use Rattle.board.specs.Said.{kept_behind, Boards, Tells, piece_says, attackers_says, attacked_says}
 use Rattle.board.specs.inner.Gates.{told_by, told_of}
 use Rattle.refusal.proofs.Saying.{some_number, number_one, verdict_one, said_by, behind_by}
+use Rattle.std.specs.Prelude.{Ok, Err}
 
 module _ (v : Verdict) (ts : List Test) (b : RetractableBoard) (h : verdict_number v ≡ first_failing ts) where
   -- the board beside a verdict
@@ -37,8 +36,8 @@ module _ (v : Verdict) (ts : List Test) (b : RetractableBoard) (h : verdict_numb
   kept_behind_lem = go v ∙ ap (λ (n : ℕ). cond (eqb n 0) b no_board) h
     where
       go : (w : Verdict) → kept_by w b ≡ cond (eqb (verdict_number w) 0) b no_board
-      go Accepted = refl
-      go (Refused r) = rw (some_number r)
+      go (Ok _) = refl
+      go (Err r) = rw (some_number r)
 
   pub boards_by : Boards ts b (boarded_by v b)
   boards_by = record { number = h; board = kept_behind_lem }

@@ -1,5 +1,5 @@
 -- The gate: refusals 1 to 7 of a board.
-use Rattle.std.specs.Prelude.{Bool, List, [], ◌∷◌, ◌++◌, ℕ}
+use Rattle.std.specs.Prelude.{Bool, List, [], ◌∷◌, ◌++◌, ℕ, Ok, Err}
 use Rattle.geometry.specs.declared.Color.{Color}
 use Rattle.geometry.specs.declared.Color.TheVariants.{White}
 use Rattle.laws.specs.declared.CastleRights.{CastleRights}
@@ -14,9 +14,7 @@ use Rattle.laws.specs.Men.{Men}
 use Rattle.laws.specs.Positions.{Pos, terms_of}
 use Rattle.laws.specs.Boards.{men_in, pos_at, fields_of, fresh_ok}
 use Rattle.refusal.specs.declared.Refusal.TheVariants.{Stale}
-use Rattle.refusal.specs.declared.Verdict.{Verdict}
-use Rattle.refusal.specs.declared.Verdict.TheVariants.{Accepted, Refused}
-use Rattle.refusal.specs.Refusals.{unless, and_then}
+use Rattle.refusal.specs.Refusals.{unless, and_then, Verdict, nothing_refused}
 use Rattle.refusal.specs.Said.{Test, ◌else◌}
 use Rattle.accept.specs.Verdicts.{judged_of, raw_tests}
 use Rattle.board.specs.declared.RetractableBoard.{RetractableBoard}
@@ -53,7 +51,7 @@ fresh_on b = fresh_ok (to_laws b)
 
 -- what v refuses, or 7
 abbrev pub stale_after : Verdict → RetractableBoard → Verdict
-stale_after v b = and_then v (unless (fresh_on b) Stale Accepted)
+stale_after v b = and_then v (unless (fresh_on b) Stale nothing_refused)
 
 -- the first of 1 to 7 that is given
 unfoldable pub gate_of : RetractableBoard → Verdict
@@ -92,8 +90,8 @@ no_board = record {
 
 -- b where nothing is refused, else the empty board
 abbrev pub kept_by : Verdict → RetractableBoard → RetractableBoard
-kept_by Accepted b = b
-kept_by (Refused r) b = no_board
+kept_by (Ok _) b = b
+kept_by (Err r) b = no_board
 
 abbrev pub boarded_by : Verdict → RetractableBoard → Boarded
 boarded_by v b = record { verdict = v; board = kept_by v b }

@@ -16,8 +16,8 @@ pub fn kept(v: Verdict, b: RetractableBoard) -> RetractableBoard
     ensures { result ≡ kept_by v b }
 {
     match v {
-        Verdict::Accepted => b,
-        Verdict::Refused(_) => super::no_board(),
+        Ok(()) => b,
+        Err(_) => super::no_board(),
     }
 }
 
@@ -121,12 +121,12 @@ fn stale_after(t: &[u64; 4096], v: Verdict, b: RetractableBoard) -> Verdict
     ensures { result ≡ stale_after v b }
 {
     match v {
-        Verdict::Refused(r) => Verdict::Refused(r),
-        Verdict::Accepted => {
+        Err(r) => Err(r),
+        Ok(()) => {
             if stale(t, b) {
-                return Verdict::Refused(Refusal::Stale);
+                return Err(Refusal::Stale);
             }
-            Verdict::Accepted
+            Ok(())
         }
     }
 }
@@ -148,12 +148,12 @@ pub fn ask_gate(t: &[u64; 4096], b: RetractableBoard, sq: u8) -> Verdict
 {
     let v = gate(t, b);
     match v {
-        Verdict::Refused(r) => Verdict::Refused(r),
-        Verdict::Accepted => {
+        Err(r) => Err(r),
+        Ok(()) => {
             if sq > 63 {
-                return Verdict::Refused(Refusal::Source);
+                return Err(Refusal::Source);
             }
-            Verdict::Accepted
+            Ok(())
         }
     }
 }
@@ -165,14 +165,14 @@ pub fn state_gate(t: &[u64; 4096], b: RetractableBoard, passant: EnPassantFlag) 
 {
     let v = gate(t, b);
     match v {
-        Verdict::Refused(r) => Verdict::Refused(r),
-        Verdict::Accepted => {
+        Err(r) => Err(r),
+        Ok(()) => {
             let today = position_of(b);
             let p = Position { passant, ..today };
             if accept::inner::refusals::bad_passant(p) {
-                return Verdict::Refused(Refusal::Passant);
+                return Err(Refusal::Passant);
             }
-            Verdict::Accepted
+            Ok(())
         }
     }
 }
@@ -212,10 +212,10 @@ fn worked_after(t: &[u64; 4096], v: Verdict, p: Position) -> Boarded
     ensures { result ≡ boarded_by v (worked_of p) }
 {
     match v {
-        Verdict::Refused(r) => board_by(Verdict::Refused(r), super::no_board()),
-        Verdict::Accepted => {
+        Err(r) => board_by(Err(r), super::no_board()),
+        Ok(()) => {
             let b = worked(t, p);
-            board_by(Verdict::Accepted, b)
+            board_by(Ok(()), b)
         }
     }
 }

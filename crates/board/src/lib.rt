@@ -149,11 +149,11 @@ impl RetractableBoard {
         let v = inner::ask_gate(&t, self, sq);
         self = inner::kept(v, self);
         match v {
-            Verdict::Refused(w) => PieceTold {
+            Err(w) => PieceTold {
                 answer: PieceOn::Refused(w),
                 board: self,
             },
-            Verdict::Accepted => {
+            Ok(()) => {
                 let answer = kind_on(self, sq);
                 PieceTold {
                     answer,
@@ -171,11 +171,11 @@ impl RetractableBoard {
         let v = inner::ask_gate(&t, self, sq);
         self = inner::kept(v, self);
         match v {
-            Verdict::Refused(w) => AttackersTold {
+            Err(w) => AttackersTold {
                 answer: Attackers::Refused(w),
                 board: self,
             },
-            Verdict::Accepted => {
+            Ok(()) => {
                 let men = attackers_on(self, sq, color);
                 AttackersTold {
                     answer: Attackers::Set(men),
@@ -228,8 +228,8 @@ impl RetractableBoard {
         let t = tables::between_table();
         let v = inner::moving::unmake_gate(&t, self, r);
         match v {
-            Verdict::Refused(w) => inner::board_by(Verdict::Refused(w), no_board()),
-            Verdict::Accepted => {
+            Err(w) => inner::board_by(Err(w), no_board()),
+            Ok(()) => {
                 self = inner::moving::unmade(&t, self, r);
                 inner::board_by(v, self)
             }

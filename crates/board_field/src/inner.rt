@@ -4,7 +4,6 @@ ghost use Rattle.puts.specs.inner.Growing.{Grows};
 
 use board::{Boarded, RetractableBoard};
 use laws::Edition;
-use refusal::Verdict;
 
 // The board of the text at a place. A verb that names no edition reads in A.
 pub fn read(line: &[u8], at: usize) -> Boarded {
@@ -42,8 +41,8 @@ pub fn put_boarded(b: Boarded, out: &mut [u8; 65536]) -> usize
 {
     let v = b.verdict;
     match v {
-        Verdict::Refused(r) => puts::inner::refused(r, out),
-        Verdict::Accepted => {
+        Err(r) => puts::inner::refused(r, out),
+        Ok(()) => {
             let board = b.board;
             put_text(board, out, 0)
         }

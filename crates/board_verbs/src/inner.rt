@@ -5,7 +5,6 @@ ghost use Rattle.puts.specs.inner.Growing.{Grows};
 
 use board::RetractableBoard;
 use laws::{ChessRetraction, Color, EnPassantFlag};
-use refusal::Verdict;
 
 mod made; // made.rt: raw men, and a move replayed
 mod told; // told.rt: what a board's methods tell, put
@@ -79,8 +78,8 @@ fn of_text(t: &[u64; 4096], what: Question, line: &[u8], out: &mut [u8; 65536]) 
     let today = board_field::inner::read_with(t, line, fields::inner::after(line, 0, b'\t'));
     let v = today.verdict;
     match v {
-        Verdict::Refused(w) => puts::inner::refused(w, out),
-        Verdict::Accepted => {
+        Err(w) => puts::inner::refused(w, out),
+        Ok(()) => {
             let b = today.board;
             of_board(what, b, out)
         }

@@ -13,8 +13,7 @@ use Rattle.geometry.specs.declared.Color.{Color}
 use Rattle.geometry.specs.Colors.{opp}
 use Rattle.laws.specs.Retractions.{packed}
 use Rattle.laws.specs.Boards.{Shaped}
-use Rattle.refusal.specs.declared.Verdict.TheVariants.{Accepted}
-use Rattle.refusal.specs.Refusals.{verdict_number}
+use Rattle.refusal.specs.Refusals.{verdict_number, nothing_refused}
 use Rattle.refusal.specs.Said.{first_failing, Said, number_said, told, fitting, Writes}
 use Rattle.board.specs.declared.RetractableBoard.{RetractableBoard}
 use Rattle.board.specs.Gate.{position_on, to_laws, board_tests}
@@ -53,7 +52,7 @@ module _ (b : RetractableBoard) (sound : Sound (position_on b)) (few : men b (op
 
   side_is : (x : Said) → cond (nothing_on b) (told (1 ∷ [])) x ≡ side_of b x
   unfolding side_of
-  side_is x = behind_by Accepted (full_test (pawnless_on b)) _ (sym (fits_passes (pawnless_on b) (omega (arith, pawnless_enough))))
+  side_is x = behind_by nothing_refused (full_test (pawnless_on b)) _ (sym (fits_passes (pawnless_on b) (omega (arith, pawnless_enough))))
 
 module _ (b : RetractableBoard) (shape : Shaped (to_laws b)) (accepted : first_failing (board_tests b) ≡ 0) where
   sound : Sound (position_on b)
@@ -87,13 +86,13 @@ module _ (b : RetractableBoard) (shape : Shaped (to_laws b)) (accepted : first_f
     -- the list is written, or 13 is given
     pub lists : (o after : List ℕ) (r : Listed) → Writes (list_tests b) (map packed (sequence_on b)) o (listed_says r) after
         → listed_says r ≡ fitting (length (map packed (sequence_on b))) (length o)
-    lists o after r k = k.answer ∙ sym (behind_by Accepted (list_tests b) _ (sym passes))
+    lists o after r k = k.answer ∙ sym (behind_by nothing_refused (list_tests b) _ (sym passes))
 
     -- the limited test answers, where the other side has no more men either
     pub limits : men b b.turn ≤ limit → (r : Limited) → limited_says r ≡ limited_of b → number_said (limited_says r) ≡ 0
     unfolding limited_from sides_of
     limits fewer r k =
-        ap number_said (k ∙ sym (behind_by Accepted (board_tests b) _ (sym accepted)))
+        ap number_said (k ∙ sym (behind_by nothing_refused (board_tests b) _ (sym nothing_refused)))
         ∙ ap (λ (x : Said). number_said (cond (not (eqb b.checkers 0) or names_square b.passant) (told (1 ∷ [])) x))
         (sym (side_is b sound few _)
         ∙ ap (λ (x : Said). cond (nothing_on b) (told (1 ∷ [])) x) (sym (side_is (flipped b) sound_flipped (back fewer) _)))

@@ -13,9 +13,7 @@ use Rattle.laws.specs.Men.{man, same_man}
 use Rattle.laws.specs.Positions.{Pos, retractor, king_to}
 use Rattle.laws.specs.Boards.{men_in, pos_at, Clean}
 use Rattle.refusal.specs.declared.Refusal.TheVariants.{Step}
-use Rattle.refusal.specs.declared.Verdict.{Verdict}
-use Rattle.refusal.specs.declared.Verdict.TheVariants.{Accepted}
-use Rattle.refusal.specs.Refusals.{verdict_number}
+use Rattle.refusal.specs.Refusals.{verdict_number, Verdict, nothing_refused}
 use Rattle.refusal.specs.Said.{Test, first_failing, Said, behind}
 use Rattle.position.specs.declared.Positioned.{Positioned}
 use Rattle.unmake.specs.Retracted.{unmade_for, unmade_to}
@@ -59,7 +57,7 @@ module _ (p : Position) (d : Side) {c : Color} {r : ChessRetraction} {u : Positi
   uncastle_said x h = ap (λ (w : Verdict). said_by w x) (sym h) ∙ behind_by v (uncastle_tests (pos_at p) d) x number
 
   -- where it accepts, un-make's answer has the men before the castling, clean
-  module _ (h : v ≡ Accepted) where
+  module _ (h : v ≡ nothing_refused) where
     can : can_retract (pos_at p) r' ≡ true
     can = accepted_can (pos_at p) r' (ap (λ (z : Positioned). z.verdict) (sym answer_to) ∙ (both_accept u.verdict _ (sym verdict ∙ h)).0)
 

@@ -31,14 +31,14 @@ fn king_after(v: Verdict, p: Position, c: Color, sq: u8) -> Verdict
     ensures { result ≡ king_after v (men_in p) c sq }
 {
     match v {
-        Verdict::Refused(w) => Verdict::Refused(w),
-        Verdict::Accepted => {
+        Err(w) => Err(w),
+        Ok(()) => {
             let pieces = p.pieces;
             let colors = p.colors;
             if men::inner::stands(pieces, colors, Piece::King, c, sq) {
-                return Verdict::Accepted;
+                return Ok(());
             }
-            Verdict::Refused(Refusal::Step)
+            Err(Refusal::Step)
         }
     }
 }
@@ -75,8 +75,8 @@ pub fn uncastled(t: &[u64; 4096], p: Position, side: Side) -> Castling
     let possible = u.verdict;
     let v = king_after(possible, p, c, r.source);
     match v {
-        Verdict::Refused(w) => Castling::Refused(w),
-        Verdict::Accepted => {
+        Err(w) => Castling::Refused(w),
+        Ok(()) => {
             let e = u.position;
             Castling::Attackers(kings_way(e, c, side))
         }

@@ -9,7 +9,7 @@ ghost use Rattle.castling.specs.Castlings.{uncastle_tests, way_before, castling_
 
 use board::RetractableBoard;
 use laws::Side;
-use refusal::{Refusal, Verdict};
+use refusal::Refusal;
 
 pub mod inner; // inner.rt: the un-castling, and the king's way before it
 
@@ -34,8 +34,8 @@ pub fn attackers(b: RetractableBoard, side: Side) -> Castling
     let t = tables::between_table();
     let v = board::inner::gate(&t, b);
     match v {
-        Verdict::Refused(w) => Castling::Refused(w),
-        Verdict::Accepted => {
+        Err(w) => Castling::Refused(w),
+        Ok(()) => {
             let p = board::inner::position_of(b);
             inner::uncastled(&t, p, side)
         }

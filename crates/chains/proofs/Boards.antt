@@ -11,9 +11,7 @@ use Rattle.laws.specs.Acceptance.{accepted}
 use Rattle.laws.specs.Unmaking.{unmade}
 use Rattle.laws.specs.Strictness.{Gives}
 use Rattle.laws.specs.Boards.{Shaped, fresh_ok}
-use Rattle.refusal.specs.declared.Verdict.{Verdict}
-use Rattle.refusal.specs.declared.Verdict.TheVariants.{Accepted}
-use Rattle.refusal.specs.Refusals.{verdict_number, and_then}
+use Rattle.refusal.specs.Refusals.{verdict_number, and_then, Verdict, nothing_refused}
 use Rattle.refusal.specs.Said.{first_failing}
 use Rattle.position.specs.declared.Positioned.{Positioned}
 use Rattle.position.specs.Answers.{position_of}
@@ -37,7 +35,7 @@ use Rattle.board.proofs.Moving.{fresh_worked, answer_number}
 use Rattle.chains.proofs.Walking.{chain_under, unmade_under, unmade_gives, can_retract_lem}
 
 -- an accepted board b, and a move from the position e that gives it
-module _ (b : RetractableBoard) (h : gate_of b ≡ Accepted) (r : ChessRetraction) (e : Pos) (k : ℕ) (g : Gives e (pos_on b) r k) where
+module _ (b : RetractableBoard) (h : gate_of b ≡ nothing_refused) (r : ChessRetraction) (e : Pos) (k : ℕ) (g : Gives e (pos_on b) r k) where
   lawful : accepted (pos_on b) ≡ true
   lawful = (gate_passed b h).lawful
 
@@ -58,7 +56,7 @@ module _ (b : RetractableBoard) (h : gate_of b ≡ Accepted) (r : ChessRetractio
   unfolding fresh_on
   fresh = fresh_worked (unmade_for (pos_on b) r)
 
-  gate_earlier : gate_of (unmade_on b r) ≡ Accepted
+  gate_earlier : gate_of (unmade_on b r) ≡ nothing_refused
   gate_earlier = gate_by (unmade_on b r) (both (both (unmade_men (position_on b) r can) given.is_accepted) fresh)
 
   -- the moves before it end in the un-made board too
@@ -73,7 +71,7 @@ module _ (b : RetractableBoard) (h : gate_of b ≡ Accepted) (r : ChessRetractio
       sym (pass_on (board_tests b) (unmake_tests (pos_on b) r) (gate_passes b (gate_of b) refl h)) ∙ sym (answer_number (pos_on b) r)
       ∙ ap (λ (u : Positioned). verdict_number u.verdict) (answer_is (pos_on b) r can)
 
-  passes : unmake_gate b r ≡ Accepted
+  passes : unmake_gate b r ≡ nothing_refused
   passes = ap (λ (v : Verdict). and_then v (unmade_to (pos_on b) r).verdict) h ∙ ap (λ (u : Positioned). u.verdict) (answer_is (pos_on b) r can)
 
 -- chains of boards and of their positions
@@ -81,15 +79,15 @@ positions : (l : List ChessRetraction) (b : RetractableBoard) → Chain l b → 
 positions [] b c = tt
 positions (r ∷ l) b c = (pos_on c.0, c.1, c.4, positions l c.0 c.5)
 
-boards : (l : List ChessRetraction) (b : RetractableBoard) → gate_of b ≡ Accepted → PosChain l (pos_on b) → Chain l b
+boards : (l : List ChessRetraction) (b : RetractableBoard) → gate_of b ≡ nothing_refused → PosChain l (pos_on b) → Chain l b
 boards [] b h c = tt
 boards (r ∷ l) b h c =
     later b h r c.0 c.1 c.2 l (boards l (unmade_on b r) (gate_earlier b h r c.0 c.1 c.2) (sooner b h r c.0 c.1 c.2 l c.3))
 
-module _ (b : RetractableBoard) (h : gate_of b ≡ Accepted) (r : ChessRetraction) where
+module _ (b : RetractableBoard) (h : gate_of b ≡ nothing_refused) (r : ChessRetraction) where
   -- what un-make answers to a retraction that has a past
   module _ (q : Past b r) where
-    pub past_gate : gate_of (unmade_on b r) ≡ Accepted
+    pub past_gate : gate_of (unmade_on b r) ≡ nothing_refused
     past_gate = gate_earlier b h r (pos_on q.0) q.1 q.4
 
     pub past_turn : (unmade_on b r).turn ≡ opp b.turn
@@ -98,7 +96,7 @@ module _ (b : RetractableBoard) (h : gate_of b ≡ Accepted) (r : ChessRetractio
     pub past_board : kept_behind (board_tests b ++ unmake_tests (pos_on b) r) (unmade_on b r) ≡ unmade_on b r
     past_board = sym (beside_none (board_tests b ++ unmake_tests (pos_on b) r) (unmade_on b r) no_board (tests_pass b h r (pos_on q.0) q.1 q.4))
 
-    pub past_passes : unmake_gate b r ≡ Accepted
+    pub past_passes : unmake_gate b r ≡ nothing_refused
     past_passes = passes b h r (pos_on q.0) q.1 q.4
 
   -- "Each ply is a strict retraction of the board it starts from": walking un-made boards loses no chain, and adds none

@@ -30,7 +30,6 @@ use Rattle.laws.specs.Moves.{way, after, pawn_goes, moves, is_named, goes, mark_
 use Rattle.laws.specs.Unmaking.{before}
 use Rattle.laws.specs.Strictness.{agrees, unstepped, step_ok, Gives}
 use Rattle.laws.specs.Boards.{Shaped}
-use Rattle.refusal.specs.declared.Verdict.TheVariants.{Accepted}
 use Rattle.board.specs.declared.RetractableBoard.{RetractableBoard}
 use Rattle.board.specs.Gate.{pos_on, to_laws, gate_of}
 use Rattle.board.specs.Answers.{with_passant}
@@ -42,6 +41,7 @@ use Rattle.laws.proofs.Facts.{Accepts, accepts, accepted_by, Possible, possibly,
 use Rattle.laws.proofs.Puts.{put_at, off, before_after}
 use Rattle.laws.proofs.Turning.{neighbours_stay}
 use Rattle.board.proofs.Passing.{gate_by, accepted_by_gate}
+use Rattle.refusal.specs.Refusals.{nothing_refused}
 
 -- the squares of a double step of c from t to s
 record Double (c : Color) (t s : ℕ) : Type 0 where
@@ -244,7 +244,7 @@ agrees_self None = refl
 agrees_self (Some q) = eq-eqb q q refl
 
 -- a board of unknown state, with a fine state in its place
-module _ (e : RetractableBoard) (h : gate_of e ≡ Accepted) (unknown : e.passant ≡ Any) (st : EnPassantFlag)
+module _ (e : RetractableBoard) (h : gate_of e ≡ nothing_refused) (unknown : e.passant ≡ Any) (st : EnPassantFlag)
     (fine : Fine e.terms.edition (pos_on e).men e.turn st) where
   ac : Accepts (pos_on e)
   ac = accepts (pos_on e) (right _ _ (left _ _ (accepted_by_gate e h)))
@@ -252,7 +252,7 @@ module _ (e : RetractableBoard) (h : gate_of e ≡ Accepted) (unknown : e.passan
   stated_accepted : accepted (pos_on (with_passant e st)) ≡ true
   stated_accepted = accepted_by (pos_on (with_passant e st)) (record { kings = ac.kings; pawns = ac.pawns; rights = ac.rights; state = fine.0; calm = ac.calm })
 
-  pub stated_gate : gate_of (with_passant e st) ≡ Accepted
+  pub stated_gate : gate_of (with_passant e st) ≡ nothing_refused
   stated_gate =
       let z = accepted_by_gate e h in gate_by (with_passant e st) (both (both (left _ _ (left _ _ z)) stated_accepted) (right _ _ z))
 
@@ -294,9 +294,9 @@ module _ (e : RetractableBoard) (h : gate_of e ≡ Accepted) (unknown : e.passan
 -- the latest move from a board of known state
 abbrev KnownLatest : List ChessRetraction → RetractableBoard → ChessRetraction → ℕ → Type 0
 KnownLatest l b r k =
-    (e : RetractableBoard) × Shaped (to_laws e) × (gate_of e ≡ Accepted) × Gives (pos_on e) (pos_on b) r k × (e.passant ≡ Any → ⊥) × Chain l e
+    (e : RetractableBoard) × Shaped (to_laws e) × (gate_of e ≡ nothing_refused) × Gives (pos_on e) (pos_on b) r k × (e.passant ≡ Any → ⊥) × Chain l e
 
-known_latest : (l : List ChessRetraction) (e b : RetractableBoard) (r : ChessRetraction) (k : ℕ) → Shaped (to_laws e) → gate_of e ≡ Accepted
+known_latest : (l : List ChessRetraction) (e b : RetractableBoard) (r : ChessRetraction) (k : ℕ) → Shaped (to_laws e) → gate_of e ≡ nothing_refused
     → Gives (pos_on e) (pos_on b) r k → Chain l e → KnownLatest l b r k
 known_latest l e b r k sh h g c = by_state_lem e.passant refl
   where

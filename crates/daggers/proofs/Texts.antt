@@ -12,8 +12,6 @@ use Rattle.laws.specs.declared.Edition.TheVariants.{A}
 use Rattle.laws.specs.Acceptance.{accepted}
 use Rattle.laws.specs.Strictness.{strict}
 use Rattle.laws.specs.StrictLists.{retraction_at, In}
-use Rattle.refusal.specs.declared.Verdict.{Verdict}
-use Rattle.refusal.specs.declared.Verdict.TheVariants.{Accepted}
 use Rattle.board.specs.declared.RetractableBoard.{RetractableBoard}
 use Rattle.board.specs.declared.Boarded.{Boarded}
 use Rattle.board.specs.Gate.{pos_on, gate_of, boarded_by}
@@ -33,6 +31,7 @@ use Rattle.board.proofs.Passing.{gate_judged, gate_by}
 use Rattle.position_text.proofs.Inverse.{in_form_lem, says_men_ok}
 use Rattle.text.proofs.RoundTrip.{read_said}
 use Rattle.strict.proofs.Told.{strict_past}
+use Rattle.refusal.specs.Refusals.{Verdict, nothing_refused}
 
 -- what the reader's walk reads, and the board of it
 abbrev pub fields_in : String → Position
@@ -46,20 +45,20 @@ module _ (t : String) (prints : printed (fields_in t) ≡ bytes t) (lawful : acc
   pub says : Says A (fields_in t) (bytes t)
   says = in_form_lem A (bytes t) (raw_of A (run_of start_of (bytes t))) (bytes t) true refl (sym prints) refl refl
 
-  pub gate : gate_of (board_in t) ≡ Accepted
+  pub gate : gate_of (board_in t) ≡ nothing_refused
   gate =
       gate_by (board_in t)
       (both (both (says_men_ok A (bytes t) (fields_in t) says) lawful)
       (both (both (eq-eqb (board_in t).combined _ refl) (eq-eqb (board_in t).checkers _ refl)) (eq-eqb (board_in t).pinned _ refl)))
 
-  read_is : (b : Boarded) → Reads A (bytes t) b → b ≡ record { verdict = Accepted; board = board_in t }
+  read_is : (b : Boarded) → Reads A (bytes t) b → b ≡ record { verdict = nothing_refused; board = board_in t }
   read_is b h =
       read_said A (bytes t) b (fields_in t) h says
       ∙ ap (λ (v : Verdict). boarded_by v (board_in t)) (gate_judged (board_in t) gate)
 
   pub on_text : (P : RetractableBoard → Type 0) → P (board_in t) → OnText t P
   unfolding OnText
-  on_text P h b r = subst (λ (x : Boarded). (x.verdict ≡ Accepted) × P x.board) (sym (read_is b r)) (refl, h)
+  on_text P h b r = subst (λ (x : Boarded). (x.verdict ≡ nothing_refused) × P x.board) (sym (read_is b r)) (refl, h)
 
   strict_of : (P : List ChessRetraction → Type 0) → ((l : List ChessRetraction) → IsStrictList (board_in t) l → P l) → StrictOf t P
   strict_of P g = on_text _ λ s after a x. g x.moves (x.exact gate)

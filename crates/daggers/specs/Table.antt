@@ -13,13 +13,13 @@ use Rattle.laws.specs.Men.{Men, kind_number}
 use Rattle.laws.specs.Souls.{number, souls}
 use Rattle.laws.specs.Retractions.{packed, unpacked, InRange}
 use Rattle.laws.specs.StrictLists.{In}
-use Rattle.refusal.specs.declared.Verdict.TheVariants.{Accepted}
 use Rattle.board.specs.declared.RetractableBoard.{RetractableBoard}
 use Rattle.board.specs.declared.Boarded.{Boarded}
 use Rattle.slots.specs.declared.Listed.{Listed}
 use Rattle.strict.specs.Demand.{Lists}
 use Rattle.text.specs.Entries.{Reads}
 use Rattle.daggers.specs.Names.{bytes, square, named, back}
+use Rattle.refusal.specs.Refusals.{nothing_refused}
 
 pub data Line : Type 0 where
   -- a text, and a retraction that is in its strict list; a text, and a source and a target that no retraction in its strict list has
@@ -34,7 +34,7 @@ pub data Line : Type 0 where
 
 -- `read` accepts the text t in edition A, and P holds of its board
 unfoldable pub OnText : String → (RetractableBoard → Type 0) → Type 0
-OnText t P = (b : Boarded) → Reads A (bytes t) b → (b.verdict ≡ Accepted) × P b.board
+OnText t P = (b : Boarded) → Reads A (bytes t) b → (b.verdict ≡ nothing_refused) × P b.board
 
 -- whatever `strict_into` may answer on the text's board, P holds of its list
 abbrev pub StrictOf : String → (List ChessRetraction → Type 0) → Type 0

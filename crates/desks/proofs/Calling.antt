@@ -9,7 +9,6 @@ use lib.ListN.{length, get_or, set, length-set, get_or-eq_default}
 use lib.Seq.{paste}
 use borrow.Author.Tests.{lt-ltb, le-ltb, eq-eqb, ne_eqb}
 use Rattle.refusal.specs.declared.Refusal.{Refusal}
-use Rattle.refusal.specs.declared.Verdict.TheVariants.{Accepted, Refused}
 use Rattle.refusal.specs.Said.{number_said, told, behind}
 use Rattle.board.specs.declared.RetractableBoard.{RetractableBoard}
 use Rattle.board.specs.declared.Boarded.{Boarded}
@@ -26,6 +25,8 @@ use Rattle.desks.specs.Calls.{placed_answer, told_answer, fetched_answer, cleare
 use Rattle.desks.specs.inner.Within.{AnswersAt}
 use Rattle.refusal.proofs.Saying.{said_by, behind_by}
 use Rattle.desks.proofs.Pasting.{places_length, places_at}
+use Rattle.refusal.specs.Refusals.{nothing_refused}
+use Rattle.std.specs.Prelude.{Err}
 
 module _ (s : List ℕ) (p n : ℕ) where
   -- the place with a number
@@ -114,12 +115,12 @@ module _ (s : List ℕ) (p n : ℕ) where
 
 -- what is found, tested by 1 to 7
 module _ (b : RetractableBoard) (z : Boarded) (k : Boards (board_tests b) b z) where
-  pub tested_refused : (w : Refusal) → z.verdict ≡ Refused w → fetched_answer (record { told = notTold (Board w); board = z.board }) ≡ fetched_from (held b)
+  pub tested_refused : (w : Refusal) → z.verdict ≡ Err w → fetched_answer (record { told = notTold (Board w); board = z.board }) ≡ fetched_from (held b)
   tested_refused w e =
       let q : said_by z.verdict (told []) ≡ behind (board_tests b) (told []) = behind_by z.verdict (board_tests b) (told []) k.number in
       rw (← q, e, ← k.board)
 
-  pub tested_done : z.verdict ≡ Accepted → fetched_answer (record { told = Done; board = z.board }) ≡ fetched_from (held b)
+  pub tested_done : z.verdict ≡ nothing_refused → fetched_answer (record { told = Done; board = z.board }) ≡ fetched_from (held b)
   tested_done e =
       let q : said_by z.verdict (told []) ≡ behind (board_tests b) (told []) = behind_by z.verdict (board_tests b) (told []) k.number in
       rw (← q, e, ← k.board)

@@ -7,9 +7,7 @@ use native.Mathlib.Omega.{arith}
 use lib.Dec.{eqb, ltb}
 use lib.ListN.{length}
 use borrow.Author.Tests.{lt-ltb, ltb-false}
-use Rattle.refusal.specs.declared.Verdict.{Verdict}
-use Rattle.refusal.specs.declared.Verdict.TheVariants.{Accepted, Refused}
-use Rattle.refusal.specs.Refusals.{verdict_number}
+use Rattle.refusal.specs.Refusals.{verdict_number, Verdict}
 use Rattle.refusal.specs.Said.{first_failing}
 use Rattle.desks.specs.declared.Why.{Why}
 use Rattle.desks.specs.declared.Why.TheVariants.{Board, Desk, Quota, Absent}
@@ -21,6 +19,7 @@ use Rattle.desks.specs.Calls.{first_of, left_by, Answers}
 use Rattle.desks.specs.inner.Within.{AnswersAt, stand_of, stand_behind}
 use Rattle.refusal.proofs.Saying.{some_number}
 use Rattle.desks.proofs.Room.{fit_room}
+use Rattle.std.specs.Prelude.{Ok, Err}
 
 -- no number of refusal is 0
 pub some_why : (w : Why) → eqb (why_number w) 0 ≡ false
@@ -91,15 +90,15 @@ module _ (s : List ℕ) (d : ℕ) (a : Ask) (v : Verdict) (h : verdict_number v 
 
   by_verdict : (w : Verdict) → verdict_number w ≡ first_failing (tests_first a) → answer_of (table_of s) d a ≡ answer_by (stand_behind w s d)
   unfolding answer_of
-  by_verdict Accepted e = rw (← e, stand_met s d) (by_stand (stand_of s d))
-  by_verdict (Refused r) e = rw (← e, some_number r)
+  by_verdict (Ok _) e = rw (← e, stand_met s d) (by_stand (stand_of s d))
+  by_verdict (Err r) e = rw (← e, some_number r)
 
   pub refused : (w : Why) → stand_behind v s d ≡ noStand w → Answers s d a (refuses w) s
   refused w e = record { answer = sym (by_verdict v h ∙ ap answer_by e); holds = rw (some_why w) }
 
   at_first : (w : Verdict) (p n : ℕ) → stand_behind w s d ≡ At p n → (base (p + n) ≤ length s) × (p ≡ first_of s d)
-  at_first Accepted p n e = stand_room s d p n e
-  at_first (Refused r) p n e = let z : ◌≡◌ {A = ℕ} 0 1 = cc in absurd (omega arith)
+  at_first (Ok _) p n e = stand_room s d p n e
+  at_first (Err r) p n e = let z : ◌≡◌ {A = ℕ} 0 1 = cc in absurd (omega arith)
 
   pub has_places : (p n : ℕ) → stand_behind v s d ≡ At p n → base (p + n) ≤ length s
   has_places p n e = (at_first v p n e).0

@@ -61,8 +61,8 @@ pub fn stand_behind(v: Verdict, table: &[u64], desk: u8) -> Stand
     ensures { result ≡ stand_behind v table.now desk }
 {
     match v {
-        Verdict::Refused(w) => Stand::Refused(Why::Board(w)),
-        Verdict::Accepted => stand(table, desk),
+        Err(w) => Stand::Refused(Why::Board(w)),
+        Ok(()) => stand(table, desk),
     }
 }
 
@@ -113,11 +113,11 @@ fn tested(b: RetractableBoard) -> Fetched
     let v = judged.verdict;
     let board = judged.board;
     match v {
-        Verdict::Refused(w) => Fetched {
+        Err(w) => Fetched {
             told: Told::Refused(Why::Board(w)),
             board,
         },
-        Verdict::Accepted => Fetched {
+        Ok(()) => Fetched {
             told: Told::Done,
             board,
         },

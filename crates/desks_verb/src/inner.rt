@@ -4,7 +4,6 @@ ghost use Rattle.std.specs.Prelude.{◌≤◌};
 ghost use Rattle.puts.specs.inner.Growing.{Grows};
 
 use desks::{Fetched, Placed, Told, Why};
-use refusal::Verdict;
 
 // The answer to a line of this verb, 0 bytes to any other.
 pub fn answer(line: &[u8], out: &mut [u8; 65536]) -> usize
@@ -125,8 +124,8 @@ fn put_board(
     let today = board_field::inner::read_with(&t, line, at);
     let v = today.verdict;
     match v {
-        Verdict::Refused(r) => puts::inner::refused_by(out, len, refusal::number(r)),
-        Verdict::Accepted => {
+        Err(r) => puts::inner::refused_by(out, len, refusal::number(r)),
+        Ok(()) => {
             let b = today.board;
             put_placed(desks::put(table, desk, b), out, len)
         }

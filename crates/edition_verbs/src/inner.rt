@@ -5,7 +5,6 @@ ghost use Rattle.puts.specs.inner.Growing.{Grows};
 
 use board::RetractableBoard;
 use laws::{Color, Edition, Side};
-use refusal::Verdict;
 
 mod attacked; // attacked.rt: who attacks a square, checks, or forbids a castling
 mod histories; // histories.rt: the plies of a history
@@ -138,8 +137,8 @@ fn of_text(
     let today = board_field::inner::read_in_with(t, line, at, edition);
     let v = today.verdict;
     match v {
-        Verdict::Refused(w) => puts::inner::refused(w, out),
-        Verdict::Accepted => {
+        Err(w) => puts::inner::refused(w, out),
+        Ok(()) => {
             let b = today.board;
             of_board(t, what, b, out)
         }

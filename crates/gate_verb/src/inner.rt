@@ -80,8 +80,8 @@ fn of_refusal(r: Refusal) -> u64 {
 
 fn of_verdict(v: Verdict) -> u64 {
     match v {
-        Verdict::Accepted => 0,
-        Verdict::Refused(r) => of_refusal(r),
+        Ok(()) => 0,
+        Err(r) => of_refusal(r),
     }
 }
 

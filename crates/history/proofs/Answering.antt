@@ -12,9 +12,7 @@ use Rattle.squares.specs.Tests.{◌and◌}
 use Rattle.laws.specs.declared.ChessRetraction.{ChessRetraction}
 use Rattle.laws.specs.StrictLists.{place}
 use Rattle.refusal.specs.declared.Refusal.{Refusal}
-use Rattle.refusal.specs.declared.Verdict.{Verdict}
-use Rattle.refusal.specs.declared.Verdict.TheVariants.{Accepted, Refused}
-use Rattle.refusal.specs.Refusals.{verdict_number}
+use Rattle.refusal.specs.Refusals.{verdict_number, Verdict, nothing_refused}
 use Rattle.refusal.specs.Said.{first_failing}
 use Rattle.board.specs.declared.RetractableBoard.{RetractableBoard}
 use Rattle.board.specs.declared.Boarded.{Boarded}
@@ -33,6 +31,7 @@ use Rattle.refusal.proofs.Saying.{some_number, number_low, number_one, verdict_o
 use Rattle.refusal.proofs.Tested.{beside_refused}
 use Rattle.board.proofs.Passing.{gate_number}
 use Rattle.board.proofs.Numbers.{gate_refuses, gate_passes, passed_gate}
+use Rattle.std.specs.Prelude.{Err}
 
 pub some_why : (w : Why) → eqb (why_number w) 0 ≡ false
 some_why (Board r) = some_number r
@@ -47,18 +46,18 @@ judged_gate b {v = v} x e = verdict_one (gate_of b) v (gate_number b ∙ sym x.n
 
 module _ (b : RetractableBoard) (n : ℕ) where
   -- the number by the depth, on a board that passes 1 to 7
-  at_depth : gate_of b ≡ Accepted → number_for b n ≡ cond (leb 1 n and leb n 4) 0 19
+  at_depth : gate_of b ≡ nothing_refused → number_for b n ≡ cond (leb 1 n and leb n 4) 0 19
   at_depth h = rw (gate_passes b (gate_of b) refl h)
 
-  pub passing : gate_of b ≡ Accepted → 1 ≤ n → n ≤ 4 → number_for b n ≡ 0
+  pub passing : gate_of b ≡ nothing_refused → 1 ≤ n → n ≤ 4 → number_for b n ≡ 0
   passing h l m = at_depth h ∙ rw (both (le-leb 1 n l) (le-leb n 4 m))
 
   -- and back
-  pub passed : number_for b n ≡ 0 → (gate_of b ≡ Accepted) × (1 ≤ n) × (n ≤ 4)
+  pub passed : number_for b n ≡ 0 → (gate_of b ≡ nothing_refused) × (1 ≤ n) × (n ≤ 4)
   passed e = go (eqb (first_failing (board_tests b)) 0) (leb 1 n and leb n 4) refl refl e
     where
       go : (x y : Bool) → eqb (first_failing (board_tests b)) 0 ≡ x → (leb 1 n and leb n 4) ≡ y → cond x (cond y 0 19) (first_failing (board_tests b)) ≡ 0
-          → (gate_of b ≡ Accepted) × (1 ≤ n) × (n ≤ 4)
+          → (gate_of b ≡ nothing_refused) × (1 ≤ n) × (n ≤ 4)
       go true true p q z = (passed_gate b (eqb-true _ _ p), leb-true 1 n (left _ _ q), leb-true n 4 (right _ _ q))
       go true false p q z = absurd (omega arith)
       go false y p q z = absurd (false≢true (sym p ∙ eq-eqb (first_failing (board_tests b)) 0 z))
@@ -66,22 +65,22 @@ module _ (b : RetractableBoard) (n : ℕ) where
   refused : (w : Why) → why_number w ≡ number_for b n → Answers b n (notAnswered w)
   refused w e = record { number = e; answer = λ z. absurd (never_zero w (e ∙ z)) }
 
-  pub told_refused : (why : Refusal) → gate_of b ≡ Refused why → Answers b n (notAnswered (Board why))
+  pub told_refused : (why : Refusal) → gate_of b ≡ Err why → Answers b n (notAnswered (Board why))
   told_refused why h =
       let e = gate_refuses b (gate_of b) refl why h in
       refused (Board why) (e ∙ beside_refused (board_tests b) (cond (leb 1 n and leb n 4) 0 19) (first_failing (board_tests b)) why e)
 
-  pub told_depth : gate_of b ≡ Accepted → ((1 ≤ n) × (n ≤ 4) → ⊥) → Answers b n (notAnswered Depth)
+  pub told_depth : gate_of b ≡ nothing_refused → ((1 ≤ n) × (n ≤ 4) → ⊥) → Answers b n (notAnswered Depth)
   told_depth h f = refused Depth (go (cases (leb 1 n and leb n 4)))
     where
       go : ((leb 1 n and leb n 4) ≡ true) ⊎ ((leb 1 n and leb n 4) ≡ false) → 19 ≡ number_for b n
       go (inl e) = absurd (f (leb-true 1 n (left _ _ e), leb-true n 4 (right _ _ e)))
       go (inr e) = sym (at_depth h ∙ rw e)
 
-  pub told_yes : gate_of b ≡ Accepted → 1 ≤ n → n ≤ 4 → {t : Told} {g : History} → Tells n b t → t ≡ Yes g → Answers b n (Past g)
+  pub told_yes : gate_of b ≡ nothing_refused → 1 ≤ n → n ≤ 4 → {t : Told} {g : History} → Tells n b t → t ≡ Yes g → Answers b n (Past g)
   told_yes h l m s e = record { number = sym (passing h l m); answer = λ _. subst (Tells n b) e s }
 
-  pub told_no : gate_of b ≡ Accepted → 1 ≤ n → n ≤ 4 → {t : Told} → Tells n b t → t ≡ No → Answers b n NoPast
+  pub told_no : gate_of b ≡ nothing_refused → 1 ≤ n → n ≤ 4 → {t : Told} → Tells n b t → t ≡ No → Answers b n NoPast
   told_no h l m s e = record { number = sym (passing h l m); answer = λ _. subst (Tells n b) e s }
 
 -- two histories, neither after the other, are one

@@ -10,7 +10,6 @@ use Rattle.geometry.specs.Colors.{opp}
 use Rattle.laws.specs.declared.ChessRetraction.{ChessRetraction}
 use Rattle.laws.specs.StrictLists.{place}
 use Rattle.refusal.specs.declared.Refusal.{Refusal}
-use Rattle.refusal.specs.declared.Verdict.TheVariants.{Accepted}
 use Rattle.board.specs.declared.RetractableBoard.{RetractableBoard}
 use Rattle.board.specs.Gate.{gate_of}
 use Rattle.board.specs.Moving.{unmade_on}
@@ -28,6 +27,7 @@ use Rattle.history.specs.inner.Searching.{NoneBelow}
 use Rattle.squares.proofs.Testing.{order}
 use Rattle.strict.proofs.Onward.{within, one_place}
 use Rattle.chains.proofs.Boards.{chain_on, past_gate, past_turn}
+use Rattle.refusal.specs.Refusals.{nothing_refused}
 
 -- no ply: the history of no moves
 pub told_none : (b : RetractableBoard) {h : History} {n : ℕ} → n ≡ 0 → h ≡ history_of [] → Tells n b (Yes h)
@@ -39,7 +39,7 @@ none_below n b r l m e c = no m
     no : {k : ℕ} → k < 0 → ⊥
     no m = omega arith
 
-module _ (b : RetractableBoard) (h : gate_of b ≡ Accepted) (n i : ℕ) (some : (n ≡ 0) → ⊥) (none : NoneBelow n b i) where
+module _ (b : RetractableBoard) (h : gate_of b ≡ nothing_refused) (n i : ℕ) (some : (n ≡ 0) → ⊥) (none : NoneBelow n b i) where
   latest : (r : ChessRetraction) (l : List ChessRetraction) → Chain (r ∷ l) b → Past b r
   latest r l c = ((chain_on b h r l).0 c).0
 
@@ -104,7 +104,7 @@ module _ (b : RetractableBoard) (h : gate_of b ≡ Accepted) (n i : ℕ) (some :
                 inr (s, t.1.least l (less e) (before_it l (subst (λ (z : ChessRetraction). Chain (z ∷ l) b) (sym s) c)))
 
 -- what a step through the strict list found
-module _ (b : RetractableBoard) (i : ℕ) {r : Found} (f : Finds b i r) (h : gate_of b ≡ Accepted) where
+module _ (b : RetractableBoard) (i : ℕ) {r : Found} (f : Finds b i r) (h : gate_of b ≡ nothing_refused) where
   pub found_is : {x : Placed} → r ≡ At x → (x.place ≡ place x.retraction) × FirstFrom b i x.retraction
   found_is e = subst (FoundFrom b i) e (f.found h)
 
@@ -125,15 +125,15 @@ module _ (b : RetractableBoard) (i : ℕ) {r : Found} (f : Finds b i r) (h : gat
       at_most a b = omega arith
 
 -- what the other colour's ply asks of the earlier board
-pub asks_earlier : (b : RetractableBoard) → gate_of b ≡ Accepted → (r : ChessRetraction) → Past b r → {c : Color} → b.turn ≡ c → {e : RetractableBoard}
-    → e ≡ unmade_on b r → (gate_of e ≡ Accepted) × (e.turn ≡ opp c)
+pub asks_earlier : (b : RetractableBoard) → gate_of b ≡ nothing_refused → (r : ChessRetraction) → Past b r → {c : Color} → b.turn ≡ c → {e : RetractableBoard}
+    → e ≡ unmade_on b r → (gate_of e ≡ nothing_refused) × (e.turn ≡ opp c)
 asks_earlier b h r p t q = (
   ap gate_of q ∙ past_gate b h r p,
   ap (λ (z : RetractableBoard). z.turn) q ∙ past_turn b h r p ∙ ap opp t,
 )
 
 -- what this ply tells by what the other colour's told
-module _ (b : RetractableBoard) (h : gate_of b ≡ Accepted) (n i : ℕ) (some : (n ≡ 0) → ⊥) (none : NoneBelow n b i) (x : Placed)
+module _ (b : RetractableBoard) (h : gate_of b ≡ nothing_refused) (n i : ℕ) (some : (n ≡ 0) → ⊥) (none : NoneBelow n b i) (x : Placed)
     (f : (x.place ≡ place x.retraction) × FirstFrom b i x.retraction) {e : RetractableBoard} (q : e ≡ unmade_on b x.retraction) {t : Told} (told : Tells (n - 1) e t) where
   pub yes_with : {g z : History} → t ≡ Yes g → z ≡ after_move x.retraction g → Tells n b (Yes z)
   yes_with {g} y w =

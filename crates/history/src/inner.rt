@@ -4,7 +4,6 @@ ghost use Rattle.history.specs.Histories.{Answers};
 
 use super::{Answer, Told, Why};
 use board::RetractableBoard;
-use refusal::Verdict;
 
 // The fewest plies that are asked for.
 const LEAST: u8 = 1;
@@ -16,8 +15,8 @@ pub fn history_of(t: &[u64; 4096], b: RetractableBoard, depth: u8) -> Answer
 {
     let v = board::inner::gate(t, b);
     match v {
-        Verdict::Refused(why) => Answer::Refused(Why::Board(why)),
-        Verdict::Accepted => {
+        Err(why) => Answer::Refused(Why::Board(why)),
+        Ok(()) => {
             if depth < LEAST {
                 return Answer::Refused(Why::Depth);
             }

@@ -2,7 +2,7 @@
 ghost use Rattle.std.specs.Prelude.{◌≡◌, []};
 ghost use Rattle.geometry.specs.declared.Color.TheVariants.{White, Black};
 ghost use Rattle.geometry.specs.Lines.{IsBetween};
-ghost use Rattle.refusal.specs.declared.Verdict.TheVariants.{Accepted};
+ghost use Rattle.refusal.specs.Refusals.{nothing_refused};
 ghost use Rattle.board.specs.Gate.{gate_of};
 ghost use Rattle.board.specs.Moving.{unmade_on};
 ghost use Rattle.strict.specs.Demand.{Past};
@@ -54,7 +54,7 @@ fn after_move(r: ChessRetraction, h: History) -> History
 
 // The board before a retraction that has a past.
 fn earlier(t: &[u64; 4096], b: RetractableBoard, r: ChessRetraction) -> RetractableBoard
-    requires { IsBetween t.now × (gate_of b ≡ Accepted) × Past b r }
+    requires { IsBetween t.now × (gate_of b ≡ nothing_refused) × Past b r }
     ensures { result ≡ unmade_on b r }
 {
     board::inner::moving::unmade(t, b, r)
@@ -63,7 +63,7 @@ fn earlier(t: &[u64; 4096], b: RetractableBoard, r: ChessRetraction) -> Retracta
 // White has moved last: the first of its strict retractions before which Black has one ply less. An accepted board is refused no step.
 #[cycle(black_ply_white_ply)]
 fn white_ply(t: &[u64; 4096], b: RetractableBoard, depth: u8) -> Told
-    requires { IsBetween t.now × (gate_of b ≡ Accepted) × (b.turn ≡ Black) }
+    requires { IsBetween t.now × (gate_of b ≡ nothing_refused) × (b.turn ≡ Black) }
     ensures { Tells depth b result }
 {
     if depth == 0 {
@@ -97,7 +97,7 @@ fn white_ply(t: &[u64; 4096], b: RetractableBoard, depth: u8) -> Told
 // Black has moved last.
 #[cycle(black_ply_white_ply)]
 fn black_ply(t: &[u64; 4096], b: RetractableBoard, depth: u8) -> Told
-    requires { IsBetween t.now × (gate_of b ≡ Accepted) × (b.turn ≡ White) }
+    requires { IsBetween t.now × (gate_of b ≡ nothing_refused) × (b.turn ≡ White) }
     ensures { Tells depth b result }
 {
     if depth == 0 {
@@ -130,7 +130,7 @@ fn black_ply(t: &[u64; 4096], b: RetractableBoard, depth: u8) -> Told
 
 // The ply of the side that has moved last.
 pub(super) fn last_ply(t: &[u64; 4096], b: RetractableBoard, depth: u8) -> Told
-    requires { IsBetween t.now × (gate_of b ≡ Accepted) }
+    requires { IsBetween t.now × (gate_of b ≡ nothing_refused) }
     ensures { Tells depth b result }
 {
     let turn = b.turn;

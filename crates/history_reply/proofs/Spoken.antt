@@ -14,8 +14,7 @@ use Rattle.squares.specs.Tests.{◌and◌}
 use Rattle.laws.specs.declared.Edition.TheVariants.{A}
 use Rattle.refusal.specs.declared.Refusal.{Refusal}
 use Rattle.refusal.specs.declared.Refusal.TheVariants.{Text}
-use Rattle.refusal.specs.declared.Verdict.TheVariants.{Accepted, Refused}
-use Rattle.refusal.specs.Refusals.{number_of, verdict_number}
+use Rattle.refusal.specs.Refusals.{number_of, verdict_number, nothing_refused}
 use Rattle.board.specs.declared.RetractableBoard.{RetractableBoard}
 use Rattle.board.specs.declared.Boarded.{Boarded}
 use Rattle.text.specs.Entries.{Reads}
@@ -34,10 +33,11 @@ use Rattle.record_fields.proofs.Decimals.{dec_same}
 use Rattle.record_fields.proofs.Splits.{Free, free_decimal, not_free, cut_one, free_part, cut_part, free_whole}
 use Rattle.reply.proofs.Spoken.{shows_one}
 use Rattle.history.proofs.Answering.{passed, one_answer}
+use Rattle.std.specs.Prelude.{Err}
 
 -- a text that is read is answered
 module _ (x : List ℕ) (r : Boarded) (a : Reads A x r) (n : ℕ) {k : ℕ} {o out : List ℕ} where
-  pub text_refused : (why : Refusal) → r.verdict ≡ Refused why → Shows (refused_text (number_of why)) k o out → AnswersText x n k o out
+  pub text_refused : (why : Refusal) → r.verdict ≡ Err why → Shows (refused_text (number_of why)) k o out → AnswersText x n k o out
   text_refused why e s = record {
     read = r;
     reads = a;
@@ -46,7 +46,7 @@ module _ (x : List ℕ) (r : Boarded) (a : Reads A x r) (n : ℕ) {k : ℕ} {o o
     shows = rw (e, some_number why) s;
   }
 
-  pub text_told : r.verdict ≡ Accepted → (t : Answer) → Answers r.board n t → Shows (history_text r.board n t) k o out → AnswersText x n k o out
+  pub text_told : r.verdict ≡ nothing_refused → (t : Answer) → Answers r.board n t → Shows (history_text r.board n t) k o out → AnswersText x n k o out
   text_told e t q s = record { read = r; reads = a; told = t; tells = λ _. q; shows = rw e s }
 
 -- two depths that are the same or both too great are answered alike

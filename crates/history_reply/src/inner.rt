@@ -11,7 +11,7 @@ use board::RetractableBoard;
 use history::{Answer, History};
 use laws::{ChessRetraction, Edition};
 use position_text::Copied;
-use refusal::{Refusal, Verdict};
+use refusal::Refusal;
 
 // A depth as a byte. All above 255 are out of range as it is.
 pub fn small(depth: u16) -> u8
@@ -97,8 +97,8 @@ pub fn answer_with(t: &[u64; 4096], text: &[u8], depth: u8, out: &mut [u8; 19660
     let r = text::inner::read(t, text, Edition::A);
     let v = r.verdict;
     match v {
-        Verdict::Refused(why) => reply::put_refused(why, out),
-        Verdict::Accepted => {
+        Err(why) => reply::put_refused(why, out),
+        Ok(()) => {
             let b = r.board;
             put_history(b, depth, history::inner::history_of(t, b, depth), out)
         }

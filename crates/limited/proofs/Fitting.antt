@@ -7,8 +7,6 @@ use lib.Dec.{leb}
 use lib.ListN.{length}
 use Rattle.refusal.specs.declared.Refusal.{Refusal}
 use Rattle.refusal.specs.declared.Refusal.TheVariants.{Full}
-use Rattle.refusal.specs.declared.Verdict.{Verdict}
-use Rattle.refusal.specs.declared.Verdict.TheVariants.{Accepted, Refused as refused}
 use Rattle.refusal.specs.Said.{◌else◌, first_failing, Said, told, refusal, behind}
 use Rattle.board.specs.declared.RetractableBoard.{RetractableBoard}
 use Rattle.board.specs.Gate.{position_on, gate_of, board_tests}
@@ -30,6 +28,8 @@ use Rattle.refusal.proofs.Writing.{no_value, no_both}
 use Rattle.view.proofs.Seen.{whole}
 use Rattle.board.proofs.Numbers.{gate_refuses, gate_passes}
 use Rattle.retraction_gen.proofs.Filled.{held_is, full_fails, held_passes}
+use Rattle.refusal.specs.Refusals.{Verdict, nothing_refused}
+use Rattle.std.specs.Prelude.{Err}
 
 -- the iterator's first answer, as the code reads it
 abbrev by_next : Next → Limited
@@ -43,7 +43,7 @@ next_by End = refl
 module _ (b : RetractableBoard) (l : RetractionList) (e : l ≡ answer_of (pawnless_on b)) where
   pub side_full : l.full ≡ true → limited_says (Refused Full) ≡ side_of b (told (0 ∷ []))
   unfolding side_of
-  side_full f = behind_by (refused Full) (full_test (pawnless_on b)) _ (full_fails (pawnless_on b) l e f)
+  side_full f = behind_by (Err Full) (full_test (pawnless_on b)) _ (full_fails (pawnless_on b) l e f)
 
   pub side_held : (ms : List ℕ) (s : Stepped) (x : Next) → l.full ≡ false → ms ≡ masks_on b → Steps (start_of l ms) s → s.next ≡ x
       → limited_says (by_next x) ≡ side_of b (told (0 ∷ []))
@@ -53,7 +53,7 @@ module _ (b : RetractableBoard) (l : RetractionList) (e : l ≡ answer_of (pawnl
       ∙ ap (λ (y : Said). cond (is_none y) (told (1 ∷ [])) (told (0 ∷ [])))
       (ap next_says (sym k) ∙ n.answer ∙ ap (λ (q : RetractionList). (next_of (start_of q ms)).said) (held_is (pawnless_on b) l e f)
       ∙ ap (λ (q : List ℕ). (next_of (start_of (holding (pawnless_on b)) q)).said) m)
-      ∙ behind_by Accepted (full_test (pawnless_on b)) _ (sym (held_passes (pawnless_on b) l e f))
+      ∙ behind_by nothing_refused (full_test (pawnless_on b)) _ (sym (held_passes (pawnless_on b) l e f))
 
 -- the flipped board has the same men
 pub flip_whole : (b : RetractableBoard) → Whole (view_on b) → Whole (view_on (flipped b))
@@ -85,8 +85,8 @@ side_then b x r e = sides_by (leb (length (pawnless_on b)) 47) (nothing_on b) x 
 
 -- behind the gate
 module _ (b : RetractableBoard) (v : Verdict) (e : v ≡ gate_of b) where
-  pub limited_refused : (why : Refusal) → v ≡ refused why → limited_says (Refused why) ≡ limited_of b
-  limited_refused why h = behind_by (refused why) (board_tests b) (limited_from b) (gate_refuses b v e why h)
+  pub limited_refused : (why : Refusal) → v ≡ Err why → limited_says (Refused why) ≡ limited_of b
+  limited_refused why h = behind_by (Err why) (board_tests b) (limited_from b) (gate_refuses b v e why h)
 
-  pub limited_on : (r : Limited) → v ≡ Accepted → limited_says r ≡ limited_from b → limited_says r ≡ limited_of b
-  limited_on r h k = k ∙ behind_by Accepted (board_tests b) (limited_from b) (sym (gate_passes b v e h))
+  pub limited_on : (r : Limited) → v ≡ nothing_refused → limited_says r ≡ limited_from b → limited_says r ≡ limited_of b
+  limited_on r h k = k ∙ behind_by nothing_refused (board_tests b) (limited_from b) (sym (gate_passes b v e h))

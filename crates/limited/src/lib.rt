@@ -10,7 +10,7 @@ ghost use Rattle.limited.specs.Limiting.{limited_says, names_square, flipped, si
 
 use board::RetractableBoard;
 use laws::EnPassantFlag;
-use refusal::{Refusal, Verdict};
+use refusal::Refusal;
 use retraction_gen::Next;
 
 #[derive(Drop)]
@@ -106,7 +106,7 @@ pub fn is_limited_in_retractions(b: RetractableBoard) -> Limited
     let t = tables::between_table();
     let v = board::inner::gate(&t, b);
     match v {
-        Verdict::Refused(why) => Limited::Refused(why),
-        Verdict::Accepted => limited_from(&t, b),
+        Err(why) => Limited::Refused(why),
+        Ok(()) => limited_from(&t, b),
     }
 }

@@ -4,7 +4,6 @@ ghost use Rattle.geometry.specs.Lines.{IsBetween};
 ghost use Rattle.puts.specs.inner.Growing.{Grows};
 
 use board::RetractableBoard;
-use refusal::Verdict;
 
 mod counts; // counts.rt: what is told of the lists in one word, put
 mod slices; // slices.rt: the text and the lists into a slice of any size
@@ -70,8 +69,8 @@ fn of_text(t: &[u64; 4096], what: Question, line: &[u8], out: &mut [u8; 65536]) 
     let today = board_field::inner::read_with(t, line, fields::inner::after(line, 0, b'\t'));
     let v = today.verdict;
     match v {
-        Verdict::Refused(w) => puts::inner::refused(w, out),
-        Verdict::Accepted => {
+        Err(w) => puts::inner::refused(w, out),
+        Ok(()) => {
             let b = today.board;
             of_board(t, what, b, out)
         }

@@ -9,8 +9,6 @@ use lib.Seq.{take-append_seam}
 use Rattle.laws.specs.Retractions.{packed}
 use Rattle.refusal.specs.declared.Refusal.{Refusal}
 use Rattle.refusal.specs.declared.Refusal.TheVariants.{Full}
-use Rattle.refusal.specs.declared.Verdict.{Verdict}
-use Rattle.refusal.specs.declared.Verdict.TheVariants.{Accepted, Refused}
 use Rattle.refusal.specs.Said.{first_failing, Writes}
 use Rattle.board.specs.declared.RetractableBoard.{RetractableBoard}
 use Rattle.board.specs.Gate.{gate_of, board_tests}
@@ -30,8 +28,10 @@ use Rattle.retraction_gen.proofs.Filled.{held_is, full_fails, held_passes}
 use Rattle.retraction_gen.proofs.Gated.{list_passed}
 use Rattle.retraction_gen.proofs.Sources.{list_sound}
 use Rattle.listing.specs.inner.Giving.{entries_of, Sound}
+use Rattle.refusal.specs.Refusals.{Verdict, nothing_refused}
+use Rattle.std.specs.Prelude.{Err}
 
-pub gate_told : (b : RetractableBoard) {s : List ℕ} (v : Verdict) → v ≡ gate_of b → (why : Refusal) → v ≡ Refused why
+pub gate_told : (b : RetractableBoard) {s : List ℕ} (v : Verdict) → v ≡ gate_of b → (why : Refusal) → v ≡ Err why
     → Writes (list_tests b) (map packed (sequence_on b)) s (listed_says (notListed why)) s
 gate_told b v e why h = writes_refused why (stop_on (board_tests b) (full_test (list_on b)) why (gate_refuses b v e why h))
 
@@ -44,7 +44,7 @@ unfolding holding
 held_sound es h s = record { most = h; there = omega (arith, length-append es (replicate (47 - length es) no_entry)); squares = ap sound (held_entries es) ∙ s }
 
 -- a list that is full is refused, and of any other its sequence is told
-module _ (b : RetractableBoard) (l : RetractionList) (g : gate_of b ≡ Accepted) (e : l ≡ answer_of (list_on b)) where
+module _ (b : RetractableBoard) (l : RetractionList) (g : gate_of b ≡ nothing_refused) (e : l ≡ answer_of (list_on b)) where
   on : first_failing (full_test (list_on b)) ≡ first_failing (list_tests b)
   on = pass_on (board_tests b) (full_test (list_on b)) (gate_passes b (gate_of b) refl g)
 

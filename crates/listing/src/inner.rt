@@ -3,7 +3,7 @@ ghost use Rattle.std.specs.Prelude.{◌≡◌, [], map, ◌+◌, ◌≤◌, ◌<
 ghost use Rattle.squares.specs.Squares.{has, flag};
 ghost use Rattle.geometry.specs.Lines.{IsBetween};
 ghost use Rattle.laws.specs.Retractions.{packed};
-ghost use Rattle.refusal.specs.declared.Verdict.TheVariants.{Accepted};
+ghost use Rattle.refusal.specs.Refusals.{nothing_refused};
 ghost use Rattle.refusal.specs.Said.{Writes};
 ghost use Rattle.board.specs.Gate.{gate_of};
 ghost use Rattle.retraction_gen.specs.Making.{list_tests};
@@ -13,7 +13,7 @@ ghost use Rattle.listing.specs.inner.Giving.{uncaptures_of, of_kind, of_target, 
 
 use board::RetractableBoard;
 use laws::ChessRetraction;
-use refusal::{Refusal, Verdict};
+use refusal::Refusal;
 use retraction_list::{RetractionList, SourceAndTargets, UnCaptureKind};
 use slots::Listed;
 
@@ -148,7 +148,7 @@ fn list_from(masks: &[u64; 6], list: RetractionList, slots: &mut [u16]) -> Liste
 
 // Refusal 8, then 13.
 pub fn list(t: &[u64; 4096], b: RetractableBoard, slots: &mut [u16]) -> Listed
-    requires { IsBetween t.now × (gate_of b ≡ Accepted) }
+    requires { IsBetween t.now × (gate_of b ≡ nothing_refused) }
     ensures { Writes (list_tests b) (map packed (sequence_on b)) slots.old (listed_says result) slots.new }
 {
     let list = retraction_gen::inner::entries(t, b);
@@ -166,7 +166,7 @@ pub fn retractions_into(t: &[u64; 4096], b: RetractableBoard, slots: &mut [u16])
 {
     let v = board::inner::gate(t, b);
     match v {
-        Verdict::Refused(why) => Listed::Refused(why),
-        Verdict::Accepted => list(t, b, slots),
+        Err(why) => Listed::Refused(why),
+        Ok(()) => list(t, b, slots),
     }
 }

@@ -1,5 +1,5 @@
 -- The one value of a position, and what un-make and replay answer.
-use Rattle.std.specs.Prelude.{replicate}
+use Rattle.std.specs.Prelude.{replicate, Err}
 use Rattle.geometry.specs.declared.Color.TheVariants.{White, Black}
 use Rattle.laws.specs.declared.CastleRights.TheVariants.{NoRights}
 use Rattle.laws.specs.declared.EnPassantFlag.TheVariants.{Any}
@@ -9,8 +9,8 @@ use Rattle.laws.specs.declared.Position.{Position}
 use Rattle.laws.specs.Positions.{Pos, rights_for, terms_of}
 use Rattle.laws.specs.Boards.{kind_sets, color_sets}
 use Rattle.refusal.specs.declared.Refusal.{Refusal}
-use Rattle.refusal.specs.declared.Verdict.TheVariants.{Accepted, Refused}
 use Rattle.position.specs.declared.Positioned.{Positioned}
+use Rattle.refusal.specs.Refusals.{nothing_refused}
 
 -- the one value of a position of the Laws
 unfoldable pub position_of : Pos → Position
@@ -30,7 +30,7 @@ no_position = record { pieces = replicate 6 0; colors = replicate 2 0; turn = Wh
 
 -- an answer, and a refusal with the empty position
 abbrev pub answered : Position → Positioned
-answered q = record { verdict = Accepted; position = q }
+answered q = record { verdict = nothing_refused; position = q }
 
 abbrev pub refused : Refusal → Positioned
-refused why = record { verdict = Refused why; position = no_position }
+refused why = record { verdict = Err why; position = no_position }

@@ -7,7 +7,7 @@ ghost use Rattle.position.specs.inner.Edits.{with_men, edit, man_with, color_by}
 
 use super::Positioned;
 use laws::{CastleRights, Color, Edition, EnPassantFlag, Position};
-use refusal::{Refusal, Verdict};
+use refusal::Refusal;
 
 // The set with the square in or out.
 fn edited(set: u64, s: u8, on: bool) -> u64
@@ -107,7 +107,7 @@ pub fn refuse(why: Refusal) -> Positioned
 {
     let position = nothing();
     Positioned {
-        verdict: Verdict::Refused(why),
+        verdict: Err(why),
         position: position,
     }
 }

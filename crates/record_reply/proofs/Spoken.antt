@@ -8,8 +8,7 @@ use Rattle.laws.specs.declared.Edition.TheVariants.{A}
 use Rattle.laws.specs.declared.EnPassantFlag.TheVariants.{Any, None}
 use Rattle.laws.specs.Positions.{terms_of}
 use Rattle.refusal.specs.declared.Refusal.{Refusal}
-use Rattle.refusal.specs.declared.Verdict.TheVariants.{Accepted, Refused}
-use Rattle.refusal.specs.Refusals.{number_of, verdict_number}
+use Rattle.refusal.specs.Refusals.{number_of, verdict_number, nothing_refused}
 use Rattle.refusal.specs.Said.{first_failing}
 use Rattle.refusal.proofs.Saying.{some_number}
 use Rattle.accept.specs.Verdicts.{raw_tests}
@@ -28,6 +27,7 @@ use Rattle.records.proofs.Giving.{some_why}
 use Rattle.reply.specs.Replies.{refused_text, Shows, AnswersBoard, listed_then}
 use Rattle.reply.proofs.Spoken.{line_refused, shows_one, answers_one}
 use Rattle.record_reply.specs.Answers.{state_number, record_text, sent_number, Replies, Sends}
+use Rattle.std.specs.Prelude.{Err}
 
 -- a record that is read is answered
 module _ (v : Edition) (t : List ℕ) (r : Recorded) (a : Reads v t r) {n : ℕ} {o out p q : List ℕ} where
@@ -49,10 +49,10 @@ reply_one v t n m o x y p l k q s u a b =
 
 -- a text that is read is sent out
 module _ (t : List ℕ) (r : Boarded) (a : ReadsText A t r) (h k : ℕ) {n : ℕ} {o out : List ℕ} where
-  pub send_refused : (why : Refusal) → r.verdict ≡ Refused why → Shows (refused_text (number_of why)) n o out → Sends t h k n o out
+  pub send_refused : (why : Refusal) → r.verdict ≡ Err why → Shows (refused_text (number_of why)) n o out → Sends t h k n o out
   send_refused why e s = record { read = r; reads = a; shows = rw (e, some_number why, some_number why) s }
 
-  pub send_accepted : r.verdict ≡ Accepted → (b : RetractableBoard) → b ≡ turned_on r.board → Shows (record_text (state_number b) b h k) n o out → Sends t h k n o out
+  pub send_accepted : r.verdict ≡ nothing_refused → (b : RetractableBoard) → b ≡ turned_on r.board → Shows (record_text (state_number b) b h k) n o out → Sends t h k n o out
   send_accepted e b d s = record {
     read = r;
     reads = a;
@@ -66,7 +66,7 @@ send_one t h k n m o x y a b = shows_one (ap sent (text_one A t a.read b.read a.
     sent : Boarded → List ℕ
     sent r = record_text (sent_number (verdict_number r.verdict) (turned_on r.board)) (turned_on r.board) h k
 
-read_in_a : (t : List ℕ) (r : Boarded) → ReadsText A t r → r.verdict ≡ Accepted → r.board.terms ≡ terms_of A
+read_in_a : (t : List ℕ) (r : Boarded) → ReadsText A t r → r.verdict ≡ nothing_refused → r.board.terms ≡ terms_of A
 read_in_a t r (said f s d) h =
     let z : first_failing (raw_tests f) ≡ 0 = sym d.number ∙ ap verdict_number h in
     let e : r.board ≡ worked_of f = d.board ∙ rw z in
@@ -74,7 +74,7 @@ read_in_a t r (said f s d) h =
 read_in_a t r (unsaid n e k) h = absurd (omega (arith, sym e ∙ ap verdict_number h))
 
 -- "a dash never silently changes its meaning": a text that says A's dash is 16, and no record of it is sent out
-pub dash_unsent : (t : List ℕ) (h k n : ℕ) (o out : List ℕ) (s : Sends t h k n o out) → s.read.verdict ≡ Accepted → s.read.board.passant ≡ None
+pub dash_unsent : (t : List ℕ) (h k n : ℕ) (o out : List ℕ) (s : Sends t h k n o out) → s.read.verdict ≡ nothing_refused → s.read.board.passant ≡ None
     → Shows (refused_text 16) n o out
 dash_unsent t h k n o out s a d =
     let b = turned_on s.read.board in

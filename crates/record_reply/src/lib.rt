@@ -6,7 +6,6 @@ ghost use Rattle.record_reply.specs.Answers.{edition_text, Replies, Sends};
 
 use laws::Edition;
 use records::Outcome;
-use refusal::Verdict;
 
 pub mod inner; // inner.rt: the record of a board, and a newline
 
@@ -50,8 +49,8 @@ pub fn send(text: &[u8], half: u16, full: u16, out: &mut [u8; 196608]) -> usize
     let r = text::inner::read(&t, text, Edition::A);
     let v = r.verdict;
     match v {
-        Verdict::Refused(why) => reply::put_refused(why, out),
-        Verdict::Accepted => {
+        Err(why) => reply::put_refused(why, out),
+        Ok(()) => {
             let board = r.board;
             let other = turning::inner::turned(board);
             inner::put_record(other, half, full, out)

@@ -7,9 +7,7 @@ use lib.Dec.{eqb}
 use borrow.Author.Tests.{eqb-false}
 use Rattle.laws.specs.declared.Position.{Position}
 use Rattle.refusal.specs.declared.Refusal.TheVariants.{Text as text}
-use Rattle.refusal.specs.declared.Verdict.{Verdict}
-use Rattle.refusal.specs.declared.Verdict.TheVariants.{Accepted, Refused}
-use Rattle.refusal.specs.Refusals.{verdict_number}
+use Rattle.refusal.specs.Refusals.{verdict_number, Verdict}
 use Rattle.refusal.specs.Said.{first_failing}
 use Rattle.refusal.proofs.Saying.{some_number, number_low, number_one}
 use Rattle.accept.specs.Verdicts.{judged_of, raw_tests}
@@ -27,10 +25,11 @@ use Rattle.records.specs.declared.Outcome.TheVariants.{Taken, Refused as notTake
 use Rattle.records.specs.declared.Recorded.{Recorded}
 use Rattle.records.specs.Entries.{why_number, outcome_number, number_for, Gives}
 use Rattle.records.specs.inner.Answering.{no_record, taken, recorded_by, record_said, known_said}
+use Rattle.std.specs.Prelude.{Ok, Err}
 
 pub verdict_low : (v : Verdict) → verdict_number v ≤ 14
-verdict_low Accepted = omega arith
-verdict_low (Refused r) = number_low r
+verdict_low (Ok _) = omega arith
+verdict_low (Err r) = number_low r
 
 -- a number tells its refusal, and none is 0
 pub why_one : (w v : Why) → why_number w ≡ why_number v → w ≡ v
@@ -74,8 +73,8 @@ gives_refused w b h n e =
 
 -- by the verdict on the position
 gives_by : (x : ℕ) (v : Verdict) (b : RetractableBoard) (h n : ℕ) → verdict_number v ≡ x → Gives x b h n (recorded_by v (kept_by v b) h n)
-gives_by x Accepted b h n e = subst (λ (y : ℕ). Gives y b h n (taken b h n)) e (record { number = refl; board = refl; half = refl; full = refl })
-gives_by x (Refused r) b h n e = gives_refused (Base r) b h n e
+gives_by x (Ok _) b h n e = subst (λ (y : ℕ). Gives y b h n (taken b h n)) e (record { number = refl; board = refl; half = refl; full = refl })
+gives_by x (Err r) b h n e = gives_refused (Base r) b h n e
 
 -- 15, then 1 to 6
 pub gives_said : (f : Position) (h n : ℕ) → Gives (number_for f h n) (worked_of f) h n (record_said f h n)

@@ -21,8 +21,6 @@ use Rattle.laws.specs.declared.Position.{Position}
 use Rattle.laws.specs.Men.{Men}
 use Rattle.laws.specs.Acceptance.{state_ok}
 use Rattle.laws.proofs.Cleaning.{Bounded}
-use Rattle.refusal.specs.declared.Verdict.{Verdict}
-use Rattle.refusal.specs.declared.Verdict.TheVariants.{Accepted}
 use Rattle.refusal.specs.Said.{first_failing, Said, told, Writes}
 use Rattle.refusal.proofs.Saying.{verdict_one}
 use Rattle.refusal.proofs.Writing.{writes_passed, tells_count}
@@ -48,6 +46,7 @@ use Rattle.records.proofs.Giving.{verdict_low, gives_one, said_is, within_range}
 use Rattle.records.proofs.Parts.{says_same}
 use Rattle.records.proofs.Writing.{record_length}
 use Rattle.records.proofs.Saying.{writes_known}
+use Rattle.refusal.specs.Refusals.{Verdict, nothing_refused}
 
 same_said : (ed : Edition) (t : List ℕ) (f g : Position) (h n k m : ℕ) → Says ed f h n t → Says ed g k m t → record_said f h n ≡ record_said g k m
 same_said ed t f g h n k m s u = let w = says_same ed t f g h n k m s u in λ i. record_said (w.0 i) (w.1 i) (w.2 i)
@@ -120,7 +119,7 @@ state_named v m c (Some q) h k = ranked c (eqb-true (rank_for (opp c) q) 3 (righ
 
 -- the record of an accepted board whose state is known says that board, and with counters in range is read as it
 module _ (b : RetractableBoard) (six : length b.pieces ≡ 6) (two : length b.colors ≡ 2) (bp : Bounded b.pieces) (bc : Bounded b.colors) (h n : ℕ) where
-  record_said_lem : gate_of b ≡ Accepted → is_known b.passant ≡ true → Says b.terms.edition (position_on b) h n (record_on b h n)
+  record_said_lem : gate_of b ≡ nothing_refused → is_known b.passant ≡ true → Says b.terms.edition (position_on b) h n (record_on b h n)
   record_said_lem g k = record {
     edition = refl;
     clean = (gate_sound b six two bp bc g).clean;
@@ -128,7 +127,7 @@ module _ (b : RetractableBoard) (six : length b.pieces ≡ 6) (two : length b.co
     text = refl;
   }
 
-  pub read_record : gate_of b ≡ Accepted → is_known b.passant ≡ true → in_range h n ≡ true → (r : Recorded) → Reads b.terms.edition (record_on b h n) r → r ≡ taken b h n
+  pub read_record : gate_of b ≡ nothing_refused → is_known b.passant ≡ true → in_range h n ≡ true → (r : Recorded) → Reads b.terms.edition (record_on b h n) r → r ≡ taken b h n
   read_record g k i r a =
       read_said b.terms.edition (record_on b h n) r (position_on b) h n a (record_said_lem g k) ∙ sym (within_range (position_on b) h n i)
       ∙ ap (λ (x : Boarded). recorded_by x.verdict x.board h n) (board_said b six two bp bc g)
@@ -144,12 +143,12 @@ module _ (b : RetractableBoard) (six : length b.pieces ≡ 6) (two : length b.co
 
 -- a record that is taken
 pub record Took (ed : Edition) (t : List ℕ) (r : Recorded) : Type 0 where
-  pub gate : gate_of r.board ≡ Accepted
+  pub gate : gate_of r.board ≡ nothing_refused
   pub known : is_known r.board.passant ≡ true
   pub range : in_range r.half r.full ≡ true
   pub text : record_on r.board r.half r.full ≡ t
 
-took_said : (ed : Edition) (t : List ℕ) (f : Position) (h n : ℕ) → Says ed f h n t → in_range h n ≡ true → judged_of f ≡ Accepted → Took ed t (taken (worked_of f) h n)
+took_said : (ed : Edition) (t : List ℕ) (f : Position) (h n : ℕ) → Says ed f h n t → in_range h n ≡ true → judged_of f ≡ nothing_refused → Took ed t (taken (worked_of f) h n)
 took_said ed t f h n s i j = record { gate = gate_worked f j; known = named_known f.passant s.state; range = i; text = s.text }
 
 pub took : (ed : Edition) (t : List ℕ) (r : Recorded) → Reads ed t r → r.outcome ≡ Taken → Took ed t r
@@ -158,7 +157,7 @@ took ed t r (said f h n s e) o = go (in_range h n) refl (sym e.number ∙ ap out
   where
     go : (x : Bool) → in_range h n ≡ x → cond x (first_failing (raw_tests f)) 15 ≡ 0 → Took ed t r
     go true i k =
-        let j : judged_of f ≡ Accepted = verdict_one (judged_of f) Accepted (judged_number f ∙ k) in
+        let j : judged_of f ≡ nothing_refused = verdict_one (judged_of f) nothing_refused (judged_number f ∙ k) in
         let d : r ≡ taken (worked_of f) h n = said_is f h n r e ∙ sym (within_range f h n i) ∙ ap (λ (v : Verdict). recorded_by v (kept_by v (worked_of f)) h n) j in
         subst (Took ed t) (sym d) (took_said ed t f h n s i j)
     go false i k = absurd (omega arith)

@@ -14,9 +14,7 @@ use Rattle.laws.specs.declared.EnPassantFlag.{EnPassantFlag}
 use Rattle.laws.specs.declared.Position.{Position}
 use Rattle.laws.specs.Boards.{men_in}
 use Rattle.refusal.specs.declared.Refusal.{Refusal}
-use Rattle.refusal.specs.declared.Verdict.{Verdict}
-use Rattle.refusal.specs.declared.Verdict.TheVariants.{Accepted, Refused}
-use Rattle.refusal.specs.Refusals.{number_of}
+use Rattle.refusal.specs.Refusals.{number_of, Verdict, nothing_refused}
 use Rattle.refusal.specs.Said.{Test, first_failing, Said, says, told, fitting, behind, Writes}
 use Rattle.refusal.proofs.Saying.{some_number, behind_by}
 use Rattle.refusal.proofs.Writing.{writes_roomless, writes_whole}
@@ -39,6 +37,7 @@ use Rattle.records.specs.declared.Written.TheVariants.{Count as count, Room as r
 use Rattle.records.specs.Form.{counters_text, record_of}
 use Rattle.records.specs.Entries.{why_number, record_on, written_says, WritesRecord}
 use Rattle.records.specs.inner.Answering.{passed_fields}
+use Rattle.std.specs.Prelude.{Err}
 
 -- the fields have at most 81 bytes and, as any counter has at most five digits, a record at most 93
 fields_short : (f : Position) → length (printed (passed_fields f)) ≤ 81
@@ -138,7 +137,7 @@ module _ (e : EnPassantFlag) (t o : List ℕ) where
 
   refused_writes : (ts : List Test) (why : Refusal) → number_of why ≡ first_failing ts → WritesRecord ts e t o (written_says (notWritten (Base why))) o
   refused_writes ts why h = record {
-    answer = behind_by (Refused why) ts (cond (is_known e) (fitting (length t) (length o)) (says (why_number Unknown) [])) h;
+    answer = behind_by (Err why) ts (cond (is_known e) (fitting (length t) (length o)) (says (why_number Unknown) [])) h;
     holds = rw (some_number why);
   }
 
@@ -148,9 +147,9 @@ module _ (e : EnPassantFlag) (t o : List ℕ) where
 
 -- behind the gate
 module _ (b : RetractableBoard) (h n : ℕ) (o : List ℕ) (v : Verdict) (e : v ≡ gate_of b) where
-  pub not_written : (why : Refusal) → v ≡ Refused why → WritesRecord (board_tests b) b.passant (record_on b h n) o (written_says (notWritten (Base why))) o
+  pub not_written : (why : Refusal) → v ≡ Err why → WritesRecord (board_tests b) b.passant (record_on b h n) o (written_says (notWritten (Base why))) o
   not_written why k = refused_writes b.passant (record_on b h n) o (board_tests b) why (gate_refuses b v e why k)
 
-  pub written_so : (x : Said) (after : List ℕ) → v ≡ Accepted → WritesRecord [] b.passant (record_on b h n) o x after
+  pub written_so : (x : Said) (after : List ℕ) → v ≡ nothing_refused → WritesRecord [] b.passant (record_on b h n) o x after
       → WritesRecord (board_tests b) b.passant (record_on b h n) o x after
   written_so x after k w = behind_writes b.passant (record_on b h n) o (board_tests b) x after (gate_passes b v e k) w

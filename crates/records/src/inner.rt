@@ -13,7 +13,7 @@ use laws::{Edition, EnPassantFlag, Position};
 use output::Put;
 use position_text::{Form, Raw};
 use record_fields::inner::{count, in_range, is_known, last, passed_state, pawn_state};
-use refusal::{Refusal, Verdict};
+use refusal::Refusal;
 
 fn with_state(p: Position, passant: EnPassantFlag) -> Position
     ensures { result ≡ with_state p passant }
@@ -38,7 +38,7 @@ fn recorded(b: Boarded, half: u16, full: u16) -> Recorded
 {
     let v = b.verdict;
     match v {
-        Verdict::Accepted => {
+        Ok(()) => {
             let board = b.board;
             Recorded {
                 outcome: Outcome::Taken,
@@ -47,7 +47,7 @@ fn recorded(b: Boarded, half: u16, full: u16) -> Recorded
                 full,
             }
         }
-        Verdict::Refused(r) => no_record(Why::Base(r)),
+        Err(r) => no_record(Why::Base(r)),
     }
 }
 

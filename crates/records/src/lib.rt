@@ -8,7 +8,7 @@ ghost use Rattle.records.specs.Entries.{why_number, Reads, record_on, written_sa
 
 use board::RetractableBoard;
 use laws::Edition;
-use refusal::{Refusal, Verdict};
+use refusal::Refusal;
 
 pub mod inner; // inner.rt: the answer to a record, and the record in bytes
 
@@ -69,7 +69,7 @@ pub fn write(b: RetractableBoard, half: u16, full: u16, out: &mut [u8]) -> Writt
     let t = tables::between_table();
     let v = board::inner::gate(&t, b);
     match v {
-        Verdict::Refused(r) => Written::Refused(Why::Base(r)),
-        Verdict::Accepted => inner::write(b, half, full, out),
+        Err(r) => Written::Refused(Why::Base(r)),
+        Ok(()) => inner::write(b, half, full, out),
     }
 }

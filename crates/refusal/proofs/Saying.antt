@@ -8,10 +8,9 @@ use lib.Dec.{eqb}
 use lib.ListN.{get_or}
 use Rattle.refusal.specs.declared.Refusal.{Refusal}
 use Rattle.refusal.specs.declared.Refusal.TheVariants.{Men as men, Kings as kings, Pawn as pawn, Rights as rights, Passant as passant, Check as check, Stale as stale, Full as full, Source as source, Target as target, Held as held, Step as step, Room as room, Text as text}
-use Rattle.refusal.specs.declared.Verdict.{Verdict}
-use Rattle.refusal.specs.declared.Verdict.TheVariants.{Accepted, Refused}
-use Rattle.refusal.specs.Refusals.{number_of, verdict_number, unless, and_then}
+use Rattle.refusal.specs.Refusals.{number_of, verdict_number, unless, and_then, Verdict, nothing_refused}
 use Rattle.refusal.specs.Said.{Test, ◌else◌, first_failing, Said, refusal, behind}
+use Rattle.std.specs.Prelude.{Ok, Err}
 
 -- a number of refusal is never 0
 pub some_number : (r : Refusal) → eqb (number_of r) 0 ≡ false
@@ -57,18 +56,18 @@ more_tests ((false else r) ∷ ts) us = rw (some_number r)
 -- tests behind those whose first number a verdict has
 pub then_numbers : (v w : Verdict) (ts us : List Test) → verdict_number v ≡ first_failing ts → verdict_number w ≡ first_failing us
     → verdict_number (and_then v w) ≡ first_failing (ts ++ us)
-then_numbers Accepted w ts us h k = rw (more_tests ts us, ← h) k
-then_numbers (Refused r) w ts us h k = rw (more_tests ts us, ← h, some_number r)
+then_numbers (Ok _) w ts us h k = rw (more_tests ts us, ← h) k
+then_numbers (Err r) w ts us h k = rw (more_tests ts us, ← h, some_number r)
 
-one_number : (ok : Bool) (r : Refusal) → verdict_number (unless ok r Accepted) ≡ first_failing ((ok else r) ∷ [])
+one_number : (ok : Bool) (r : Refusal) → verdict_number (unless ok r nothing_refused) ≡ first_failing ((ok else r) ∷ [])
 unfolding first_failing
 one_number true r = refl
 one_number false r = refl
 
 -- and one test more
 pub then_number : (v : Verdict) (ts : List Test) (ok : Bool) (r : Refusal) → verdict_number v ≡ first_failing ts
-    → verdict_number (and_then v (unless ok r Accepted)) ≡ first_failing (ts ++ ((ok else r) ∷ []))
-then_number v ts ok r h = then_numbers v (unless ok r Accepted) ts ((ok else r) ∷ []) h (one_number ok r)
+    → verdict_number (and_then v (unless ok r nothing_refused)) ≡ first_failing (ts ++ ((ok else r) ∷ []))
+then_number v ts ok r h = then_numbers v (unless ok r nothing_refused) ts ((ok else r) ∷ []) h (one_number ok r)
 
 -- a number tells its refusal
 numbered_by : ℕ → Refusal
@@ -95,29 +94,29 @@ pub number_one : (r q : Refusal) → number_of r ≡ number_of q → r ≡ q
 number_one r q h = sym (by_number r) ∙ ap numbered_by h ∙ by_number q
 
 pub verdict_one : (v w : Verdict) → verdict_number v ≡ verdict_number w → v ≡ w
-verdict_one Accepted Accepted h = refl
-verdict_one Accepted (Refused q) h = absurd (false≢true (sym (some_number q) ∙ ap (λ (n : ℕ). eqb n 0) (sym h)))
-verdict_one (Refused r) Accepted h = absurd (false≢true (sym (some_number r) ∙ ap (λ (n : ℕ). eqb n 0) h))
-verdict_one (Refused r) (Refused q) h = ap Refused (number_one r q h)
+verdict_one (Ok _) (Ok _) h = refl
+verdict_one (Ok _) (Err q) h = absurd (false≢true (sym (some_number q) ∙ ap (λ (n : ℕ). eqb n 0) (sym h)))
+verdict_one (Err r) (Ok _) h = absurd (false≢true (sym (some_number r) ∙ ap (λ (n : ℕ). eqb n 0) h))
+verdict_one (Err r) (Err q) h = ap Err (number_one r q h)
 
 -- what a verdict refuses, or, where it accepts, x
 abbrev pub said_by : Verdict → Said → Said
-said_by Accepted x = x
-said_by (Refused r) x = refusal r
+said_by (Ok _) x = x
+said_by (Err r) x = refusal r
 
 pub behind_by : (v : Verdict) (ts : List Test) (x : Said) → verdict_number v ≡ first_failing ts → said_by v x ≡ behind ts x
 unfolding behind
-behind_by Accepted ts x h = rw (← h)
-behind_by (Refused r) ts x h = rw (← h, some_number r)
+behind_by (Ok _) ts x h = rw (← h)
+behind_by (Err r) ts x h = rw (← h, some_number r)
 
 -- a chain of verdicts that accepts
-pub never : (r : Refusal) → Refused r ≡ Accepted → ⊥
+pub never : (r : Refusal) → Err r ≡ nothing_refused → ⊥
 never r e = let z : ◌≡◌ {A = ℕ} 0 1 = cc in omega arith
 
-pub both_accept : (v w : Verdict) → and_then v w ≡ Accepted → (v ≡ Accepted) × (w ≡ Accepted)
-both_accept Accepted w e = (refl, e)
-both_accept (Refused r) w e = absurd (never r e)
+pub both_accept : (v w : Verdict) → and_then v w ≡ nothing_refused → (v ≡ nothing_refused) × (w ≡ nothing_refused)
+both_accept (Ok _) w e = (refl, e)
+both_accept (Err r) w e = absurd (never r e)
 
-pub test_passes : (ok : Bool) (r : Refusal) (v : Verdict) → unless ok r v ≡ Accepted → (ok ≡ true) × (v ≡ Accepted)
+pub test_passes : (ok : Bool) (r : Refusal) (v : Verdict) → unless ok r v ≡ nothing_refused → (ok ≡ true) × (v ≡ nothing_refused)
 test_passes true r v e = (refl, e)
 test_passes false r v e = absurd (never r e)

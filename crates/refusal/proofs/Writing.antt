@@ -9,10 +9,10 @@ use lib.ListN.{length, drop}
 use borrow.Author.Tests.{eqb-true, leb-true, leb-false, le-leb, lt-leb}
 use Rattle.refusal.specs.declared.Refusal.{Refusal}
 use Rattle.refusal.specs.declared.Refusal.TheVariants.{Room as room}
-use Rattle.refusal.specs.declared.Verdict.TheVariants.{Refused}
 use Rattle.refusal.specs.Refusals.{number_of}
 use Rattle.refusal.specs.Said.{Test, first_failing, Said, says, number_said, told, refusal, fitting, behind, Writes}
 use Rattle.refusal.proofs.Saying.{some_number, behind_by}
+use Rattle.std.specs.Prelude.{Err}
 
 values_said : Said → List ℕ
 values_said (says n vs) = vs
@@ -47,7 +47,7 @@ module _ {ts : List Test} {t o : List ℕ} where
   writes_same us h k = record { answer = rw h at k.answer; holds = k.holds }
 
   pub writes_refused : (why : Refusal) → number_of why ≡ first_failing ts → Writes ts t o (refusal why) o
-  writes_refused why h = record { answer = behind_by (Refused why) ts (fitting (length t) (length o)) h; holds = rw (some_number why) }
+  writes_refused why h = record { answer = behind_by (Err why) ts (fitting (length t) (length o)) h; holds = rw (some_number why) }
 
   -- what is to be written counts only where the tests all pass
   pub writes_any : {x : Said} {after : List ℕ} (u : List ℕ) → (first_failing ts ≡ 0 → t ≡ u) → Writes ts t o x after → Writes ts u o x after

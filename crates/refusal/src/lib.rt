@@ -23,11 +23,8 @@ pub enum Refusal {
     Text,
 }
 
-#[derive(Clone, Copy)]
-pub enum Verdict {
-    Accepted,
-    Refused(Refusal),
-}
+// What tests come to: nothing, or the refusal of the first that fails.
+pub type Verdict = Result<(), Refusal>;
 
 // The number of a refusal.
 pub fn number(r: Refusal) -> u8

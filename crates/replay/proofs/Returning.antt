@@ -12,7 +12,6 @@ use Rattle.laws.specs.Acceptance.{rights_ok}
 use Rattle.laws.specs.Moves.{replayed}
 use Rattle.laws.specs.Unmaking.{unmade}
 use Rattle.laws.specs.Boards.{kind_sets, color_sets, Clean, men_in, pos_at}
-use Rattle.refusal.specs.declared.Verdict.TheVariants.{Accepted}
 use Rattle.laws.specs.declared.Position.{Position}
 use Rattle.position.specs.Answers.{position_of, answered}
 use Rattle.moves.specs.Stepping.{possible_for}
@@ -24,6 +23,7 @@ use Rattle.laws.proofs.Replays.{Replays, replay_unmake}
 use Rattle.position.proofs.Composing.{position_shown, position_clean}
 use Rattle.unmake.proofs.Returned.{accepted_can, answer_is, unmade_shown}
 use Rattle.replay.proofs.Forwards.{goes_of, later_on}
+use Rattle.refusal.specs.Refusals.{nothing_refused}
 
 module _ (p : Position) (r : ChessRetraction) (k : ℕ) (ok : Clean p.pieces p.colors) (h : possible_for (pos_at p) r k ≡ true) where
   pub replayed_shown : pos_at (replayed_for (pos_at p) r k) ≡ replayed (pos_at p) r k
@@ -48,7 +48,7 @@ field_back Both = refl
 
 -- an answer that gives back the arrays, the turn, the rights and the terms of p
 pub record Returns (p : Position) (z : Positioned) : Type 0 where
-  pub verdict_back : z.verdict ≡ Accepted
+  pub verdict_back : z.verdict ≡ nothing_refused
   pub pieces_back : z.position.pieces ≡ p.pieces
   pub colors_back : z.position.colors ≡ p.colors
   pub turn_back : z.position.turn ≡ p.turn
@@ -57,7 +57,7 @@ pub record Returns (p : Position) (z : Positioned) : Type 0 where
   pub terms_back : z.position.terms ≡ p.terms
 
 module _ (p : Position) (r : ChessRetraction) (ok : Clean p.pieces p.colors) (rights : rights_ok (men_in p) (rights_of p.white p.black) ≡ true)
-    (done : (unmade_to (pos_at p) r).verdict ≡ Accepted) where
+    (done : (unmade_to (pos_at p) r).verdict ≡ nothing_refused) where
   can : can_retract (pos_at p) r ≡ true
   can = accepted_can (pos_at p) r done
 

@@ -15,7 +15,7 @@ ghost use Rattle.replay.specs.inner.Parts.{after_for, state_for, keeps_for, Goes
 
 use laws::{CastleRights, ChessRetraction, Color, EnPassantFlag, Position, Side, Way};
 use position::Positioned;
-use refusal::{Refusal, Verdict};
+use refusal::Refusal;
 
 // The square that a move clears beside the one it leaves: the pawn taken en passant, the rook's corner.
 fn cleared(p: Position, w: Way, c: Color, s: u8) -> Position
@@ -134,7 +134,7 @@ pub fn replay(t: &[u64; 4096], p: Position, r: ChessRetraction, k: u8) -> Positi
     }
     let e = forward(p, r, k);
     Positioned {
-        verdict: Verdict::Accepted,
+        verdict: Ok(()),
         position: e,
     }
 }

@@ -9,8 +9,7 @@ use lib.ListN.{length, take, drop, length-append}
 use lib.Seq.{length-take-le, take-length}
 use borrow.Author.Tests.{eq-eqb}
 use Rattle.refusal.specs.declared.Refusal.{Refusal}
-use Rattle.refusal.specs.declared.Verdict.TheVariants.{Accepted}
-use Rattle.refusal.specs.Refusals.{number_of}
+use Rattle.refusal.specs.Refusals.{number_of, nothing_refused}
 use Rattle.refusal.specs.Said.{Test}
 use Rattle.board.specs.declared.RetractableBoard.{RetractableBoard}
 use Rattle.board.specs.Gate.{men_on, gate_of, board_tests}
@@ -60,7 +59,7 @@ text_short b = print_short (men_on b) b.turn b.white b.black b.passant
 
 -- a board's text and the report behind it
 module _ (b : RetractableBoard) (o o₁ : List ℕ) (m : ℕ) (l : length o ≡ 196608) where
-  pub lists_shown : gate_of b ≡ Accepted → (listed strict : List ℕ) → length listed ≤ 8192 → length strict ≤ 8192 → {ts : List Test} (n r : ℕ) (o₂ o₃ : List ℕ)
+  pub lists_shown : gate_of b ≡ nothing_refused → (listed strict : List ℕ) → length listed ≤ 8192 → length strict ≤ 8192 → {ts : List Test} (n r : ℕ) (o₂ o₃ : List ℕ)
       → Written ts (text_on b) o m o₁ → Adds o₁ m newline n o₂ → Adds o₂ n (report_of b.checkers listed strict) r o₃ → Shows (board_text b listed strict) r o o₃
   lists_shown g listed strict u v n r o₂ o₃ k w x =
       let e = (gate_passed b g).checkers_are in
@@ -79,5 +78,5 @@ module _ (b : RetractableBoard) (o o₁ : List ℕ) (m : ℕ) (l : length o ≡ 
 never_refused : (why : Refusal) → number_of why ≡ 0 → ⊥
 never_refused why e = false≢true (sym (some_number why) ∙ eq-eqb (number_of why) 0 e)
 
-pub never_failed : (b : RetractableBoard) {o out : List ℕ} {why : Refusal} → gate_of b ≡ Accepted → Failed (board_tests b) o why out → ⊥
+pub never_failed : (b : RetractableBoard) {o out : List ℕ} {why : Refusal} → gate_of b ≡ nothing_refused → Failed (board_tests b) o why out → ⊥
 never_failed b {why = why} g k = never_refused why (k.number ∙ gate_passes b (gate_of b) refl g)

@@ -10,8 +10,7 @@ use lib.Seq.{take_at}
 use Rattle.laws.specs.declared.ChessRetraction.{ChessRetraction}
 use Rattle.laws.specs.Retractions.{packed}
 use Rattle.refusal.specs.declared.Refusal.TheVariants.{Room}
-use Rattle.refusal.specs.declared.Verdict.TheVariants.{Accepted}
-use Rattle.refusal.specs.Refusals.{number_of}
+use Rattle.refusal.specs.Refusals.{number_of, nothing_refused}
 use Rattle.refusal.specs.Said.{Test, first_failing}
 use Rattle.board.specs.declared.RetractableBoard.{RetractableBoard}
 use Rattle.board.specs.Gate.{gate_of, board_tests}
@@ -37,7 +36,7 @@ module _ (b : RetractableBoard) (h : first_failing (listed_tests b) ≡ 0) where
   passed : (first_failing (list_tests b) ≡ 0) × (first_failing (room_test (sequence_on b)) ≡ 0)
   passed = none_fails (list_tests b) (room_test (sequence_on b)) h
 
-  pub passed_board : gate_of b ≡ Accepted
+  pub passed_board : gate_of b ≡ nothing_refused
   passed_board = passed_gate b (none_fails (board_tests b) (full_test (list_on b)) passed.0).0
 
   pub passed_room : length (map packed (sequence_on b)) ≤ 8192

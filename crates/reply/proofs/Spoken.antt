@@ -11,8 +11,7 @@ use Rattle.laws.specs.declared.ChessRetraction.{ChessRetraction}
 use Rattle.laws.specs.Retractions.{packed}
 use Rattle.refusal.specs.declared.Refusal.{Refusal}
 use Rattle.refusal.specs.declared.Refusal.TheVariants.{Room as room}
-use Rattle.refusal.specs.declared.Verdict.TheVariants.{Accepted, Refused}
-use Rattle.refusal.specs.Refusals.{number_of, verdict_number}
+use Rattle.refusal.specs.Refusals.{number_of, verdict_number, nothing_refused}
 use Rattle.refusal.specs.Said.{first_failing, Writes}
 use Rattle.board.specs.declared.RetractableBoard.{RetractableBoard}
 use Rattle.board.specs.declared.Boarded.{Boarded}
@@ -33,6 +32,7 @@ use Rattle.slots.proofs.Telling.{listing_tells}
 use Rattle.strict.proofs.Unique.{one_list}
 use Rattle.strict.proofs.Told.{demanded}
 use Rattle.reply.proofs.Slots.{roomy, roomless, passed_board, written_is}
+use Rattle.std.specs.Prelude.{Err}
 
 -- the board is shown with its lists, or refused
 module _ (b : RetractableBoard) (moves : List ChessRetraction) {n : ℕ} {o out q : List ℕ} where
@@ -64,7 +64,7 @@ module _ (b : RetractableBoard) (passed : first_failing (listed_tests b) ≡ 0) 
         answers_refused b x.moves (some_number room) (λ _. exact) (roomless (listed_tests b) x.moves q passed size w.short) w.holds s
 
 -- by what the ported list's slots told
-module _ (b : RetractableBoard) (g : gate_of b ≡ Accepted) {p after : List ℕ} (size : length p ≡ 8192) (r : Listed)
+module _ (b : RetractableBoard) (g : gate_of b ≡ nothing_refused) {p after : List ℕ} (size : length p ≡ 8192) (r : Listed)
     (x : Writes (list_tests b) (map packed (sequence_on b)) p (listed_says r) after) where
   pub listed_passes : (k : ℕ) → r ≡ Count k → first_failing (listed_tests b) ≡ 0
   listed_passes k e = let w = listing_tells (sequence_on b) r x (Count k) e in roomy (list_tests b) (sequence_on b) p w.passed size w.fits
@@ -95,10 +95,10 @@ line_refused b {x = x} z e s = (answers_refused b [] z (λ h. absurd (eqb-false 
 
 -- what is read is answered
 module _ (v : Edition) (t : List ℕ) (b : Boarded) (a : Reads v t b) {n : ℕ} {o out p q : List ℕ} where
-  pub reply_refused : (why : Refusal) → b.verdict ≡ Refused why → Shows (refused_text (number_of why)) n o out → Replies v t n o out p p q q
+  pub reply_refused : (why : Refusal) → b.verdict ≡ Err why → Shows (refused_text (number_of why)) n o out → Replies v t n o out p p q q
   reply_refused why e s = let w = line_refused b.board (some_number why) (ap verdict_number e) s in record { read = b; reads = a; answers = w.0; slots = w.1 }
 
-  pub reply_accepted : b.verdict ≡ Accepted → {listed strict : List ℕ} → AnswersBoard 0 b.board n o out q strict × (listed ≡ listed_then 0 b.board p)
+  pub reply_accepted : b.verdict ≡ nothing_refused → {listed strict : List ℕ} → AnswersBoard 0 b.board n o out q strict × (listed ≡ listed_then 0 b.board p)
       → Replies v t n o out p listed q strict
   reply_accepted e s = record { read = b; reads = a; answers = rw e s.0; slots = rw e s.1 }
 

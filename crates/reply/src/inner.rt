@@ -3,7 +3,7 @@
 ghost use Rattle.std.specs.Prelude.{◌≡◌, map, ◌≤◌, length};
 ghost use Rattle.geometry.specs.Lines.{IsBetween};
 ghost use Rattle.laws.specs.Retractions.{packed};
-ghost use Rattle.refusal.specs.declared.Verdict.TheVariants.{Accepted};
+ghost use Rattle.refusal.specs.Refusals.{nothing_refused};
 ghost use Rattle.refusal.specs.Said.{first_failing};
 ghost use Rattle.board.specs.Gate.{gate_of};
 ghost use Rattle.retraction_gen.specs.Sequence.{sequence_on};
@@ -12,7 +12,7 @@ ghost use Rattle.reply.specs.Replies.{refused_text, listed_tests, board_text, Sh
 use board::RetractableBoard;
 use laws::Edition;
 use position_text::Copied;
-use refusal::{Refusal, Verdict};
+use refusal::Refusal;
 use slots::Listed;
 
 // `refused N`, and nothing else, by the number alone: records are refused by numbers that no board has.
@@ -26,7 +26,7 @@ pub fn put_number(number: u8, out: &mut [u8; 196608]) -> usize
 
 // The board's own checkers are the Laws', since its gate let it pass.
 fn put_lists(b: RetractableBoard, listed: &[u16], strict: &[u16], out: &mut [u8; 196608]) -> usize
-    requires { (gate_of b ≡ Accepted) × (length listed.now ≤ 8192) × (length strict.now ≤ 8192) }
+    requires { (gate_of b ≡ nothing_refused) × (length listed.now ≤ 8192) × (length strict.now ≤ 8192) }
     ensures { Shows (board_text b listed.now strict.now) result out.old out.new }
 {
     let p = text::inner::print(b, out);
@@ -64,7 +64,7 @@ pub fn put_board(
     strict: &mut [u16],
     out: &mut [u8; 196608],
 ) -> usize
-    requires { IsBetween t.now × (gate_of b ≡ Accepted) × (length listed.old ≡ 8192) × (length strict.old ≡ 8192) }
+    requires { IsBetween t.now × (gate_of b ≡ nothing_refused) × (length listed.old ≡ 8192) × (length strict.old ≡ 8192) }
     ensures { AnswersBoard 0 b result out.old out.new strict.old strict.new × (listed.new ≡ listed_then 0 b listed.old) }
 {
     let l = listing::inner::list(t, b, listed);
@@ -90,8 +90,8 @@ pub fn reply(
     let b = text::inner::read(t, line, edition);
     let v = b.verdict;
     match v {
-        Verdict::Refused(why) => super::put_refused(why, out),
-        Verdict::Accepted => {
+        Err(why) => super::put_refused(why, out),
+        Ok(()) => {
             let board = b.board;
             put_board(t, board, listed, strict, out)
         }

@@ -4,7 +4,6 @@ use Prim.Native.Nat.{ℕ, ◌<◌}
 use lib.ListN.{length}
 use Rattle.geometry.specs.declared.Color.{Color}
 use Rattle.laws.specs.Attacks.{attacked}
-use Rattle.refusal.specs.declared.Verdict.TheVariants.{Accepted}
 use Rattle.board.specs.declared.RetractableBoard.{RetractableBoard}
 use Rattle.board.specs.Gate.{position_on, men_on, gate_of}
 use Rattle.view.specs.Views.{view_of}
@@ -16,9 +15,10 @@ use Rattle.laws.proofs.Mans.{opp_opp}
 use Rattle.board.proofs.Passing.{gate_sound, gate_passed}
 use Rattle.view.proofs.Seen.{whole}
 use Rattle.kings.proofs.Attacked.{same_attack}
+use Rattle.refusal.specs.Refusals.{nothing_refused}
 
 module _ (b : RetractableBoard) (six : length b.pieces ≡ 6) (two : length b.colors ≡ 2) (kinds : Bounded b.pieces) (colours : Bounded b.colors)
-    (g : gate_of b ≡ Accepted) where
+    (g : gate_of b ≡ nothing_refused) where
   pub seen_whole : Whole (view_on b)
   seen_whole = whole (position_on b) b.combined b.pinned b.checkers (gate_sound b six two kinds colours g).clean (gate_passed b g).union_is
 

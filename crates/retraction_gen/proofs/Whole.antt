@@ -9,8 +9,7 @@ use lib.Dec.{leb, ltb, lit<}
 use lib.ListN.{length, get_or, set, take, replicate}
 use borrow.Author.Tests.{leb-true, le-leb, ltb-false, ltb-true, leb-false}
 use Rattle.squares.specs.Tests.{◌and◌}
-use Rattle.refusal.specs.declared.Verdict.TheVariants.{Accepted}
-use Rattle.refusal.specs.Refusals.{verdict_number}
+use Rattle.refusal.specs.Refusals.{verdict_number, nothing_refused}
 use Rattle.refusal.specs.Said.{first_failing}
 use Rattle.board.specs.declared.RetractableBoard.{RetractableBoard}
 use Rattle.laws.specs.declared.ChessRetraction.{ChessRetraction}
@@ -141,7 +140,7 @@ start_rest es ms =
     ∙ ap (rest_in ms 0) (window_front es (replicate (47 - length es) no_entry)) ∙ rest_sequence ms es
 
 -- whatever `new_legal` answers: where nothing is refused, the cursor is the start of the board's list
-module _ (b : RetractableBoard) (m : Made) (k : Makes (list_tests b) (cursor_on b) m) (h : m.verdict ≡ Accepted) where
+module _ (b : RetractableBoard) (m : Made) (k : Makes (list_tests b) (cursor_on b) m) (h : m.verdict ≡ nothing_refused) where
   none_failed : first_failing (list_tests b) ≡ 0
   none_failed = sym k.number ∙ ap verdict_number h
 

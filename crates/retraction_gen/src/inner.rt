@@ -2,7 +2,7 @@
 ghost use Rattle.std.specs.Prelude.{◌≡◌, ◌<◌};
 ghost use Rattle.geometry.specs.Lines.{IsBetween};
 ghost use Rattle.retraction_list.specs.inner.Pushing.{answer_of};
-ghost use Rattle.refusal.specs.declared.Verdict.TheVariants.{Accepted, Refused};
+ghost use Rattle.refusal.specs.Refusals.{nothing_refused};
 ghost use Rattle.board.specs.Gate.{gate_of};
 ghost use Rattle.retraction_gen.specs.Making.{view_on, list_on, start_of, full_test, cursor_on, no_cursor, Makes};
 ghost use Rattle.retraction_gen.specs.declared.Turn.TheVariants.{Again, Found};
@@ -11,7 +11,7 @@ ghost use Rattle.retraction_gen.specs.Cursors.{turned, entry_at, spent, is_un_en
 use super::{Made, RetractionGen, Turn, Turned};
 use board::RetractableBoard;
 use laws::ChessRetraction;
-use refusal::{Refusal, Verdict};
+use refusal::Refusal;
 use retraction_list::{RetractionList, UnCaptureKind};
 use view::View;
 
@@ -43,18 +43,18 @@ pub fn started(list: RetractionList, masks: [u64; 6]) -> RetractionGen
 
 // A refusal beside the empty cursor.
 pub fn refused(why: Refusal) -> Made
-    ensures { (result.verdict ≡ Refused why) × (result.cursor ≡ no_cursor) }
+    ensures { (result.verdict ≡ Err why) × (result.cursor ≡ no_cursor) }
 {
     let none = retraction_list::inner::overfull();
     Made {
-        verdict: Verdict::Refused(why),
+        verdict: Err(why),
         cursor: started(none, [0; 6]),
     }
 }
 
 // The list of a board that its gate let pass, or FULL. `t` is the table of squares between, lent.
 pub fn entries(t: &[u64; 4096], b: RetractableBoard) -> RetractionList
-    requires { IsBetween t.now × (gate_of b ≡ Accepted) }
+    requires { IsBetween t.now × (gate_of b ≡ nothing_refused) }
     ensures { result ≡ answer_of (list_on b) }
 {
     let v = seen(b);
@@ -63,7 +63,7 @@ pub fn entries(t: &[u64; 4096], b: RetractableBoard) -> RetractionList
 
 // The cursor of a board that its gate let pass, or FULL.
 pub fn made_from(t: &[u64; 4096], b: RetractableBoard) -> Made
-    requires { IsBetween t.now × (gate_of b ≡ Accepted) }
+    requires { IsBetween t.now × (gate_of b ≡ nothing_refused) }
     ensures { Makes (full_test (list_on b)) (cursor_on b) result }
 {
     let list = entries(t, b);
@@ -72,7 +72,7 @@ pub fn made_from(t: &[u64; 4096], b: RetractableBoard) -> Made
     }
     let masks = uncaptured::inner::candidates(board::inner::position_of(b));
     Made {
-        verdict: Verdict::Accepted,
+        verdict: Ok(()),
         cursor: started(list, masks),
     }
 }

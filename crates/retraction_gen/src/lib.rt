@@ -71,8 +71,8 @@ impl RetractionGen {
         let t = tables::between_table();
         let v = board::inner::gate(&t, b);
         match v {
-            Verdict::Refused(why) => inner::refused(why),
-            Verdict::Accepted => inner::made_from(&t, b),
+            Err(why) => inner::refused(why),
+            Ok(()) => inner::made_from(&t, b),
         }
     }
 
@@ -116,14 +116,14 @@ pub fn uncaptured_candidates(b: RetractableBoard) -> Masks
     let t = tables::between_table();
     let v = board::inner::gate(&t, b);
     match v {
-        Verdict::Refused(why) => Masks {
-            verdict: Verdict::Refused(why),
+        Err(why) => Masks {
+            verdict: Err(why),
             masks: [0; 6],
         },
-        Verdict::Accepted => {
+        Ok(()) => {
             let masks = uncaptured::inner::candidates(board::inner::position_of(b));
             Masks {
-                verdict: Verdict::Accepted,
+                verdict: Ok(()),
                 masks,
             }
         }

@@ -10,9 +10,7 @@ use Rattle.geometry.specs.Colors.{opp}
 use Rattle.laws.specs.declared.ChessRetraction.{ChessRetraction}
 use Rattle.laws.specs.Retractions.{packed, InRange}
 use Rattle.refusal.specs.declared.Refusal.{Refusal}
-use Rattle.refusal.specs.declared.Verdict.{Verdict}
-use Rattle.refusal.specs.declared.Verdict.TheVariants.{Accepted, Refused}
-use Rattle.refusal.specs.Refusals.{number_of, verdict_number}
+use Rattle.refusal.specs.Refusals.{number_of, verdict_number, Verdict, nothing_refused}
 use Rattle.refusal.specs.Said.{Test, first_failing}
 use Rattle.board.specs.declared.RetractableBoard.{RetractableBoard}
 use Rattle.board.specs.Gate.{board_tests}
@@ -38,13 +36,14 @@ use Rattle.screen.specs.Screens.{opening_of, opening_text, board_before, retract
 use Rattle.words.proofs.Chained.{three_added, four_added, five_added}
 use Rattle.words.proofs.Lengths.{length_bytes, side_short, words_short}
 use Rattle.diagram.proofs.Drawn.{diagram_length}
+use Rattle.std.specs.Prelude.{Err}
 
 -- what the first failing test chooses, by the verdict that has its number
 module _ (ts : List Test) (x b : RetractableBoard) (v : Verdict) (k : verdict_number v ≡ first_failing ts) where
-  pub taken : v ≡ Accepted → x ≡ cond (eqb (first_failing ts) 0) x b
+  pub taken : v ≡ nothing_refused → x ≡ cond (eqb (first_failing ts) 0) x b
   taken h = beside_none ts x b (sym k ∙ ap verdict_number h)
 
-  pub left : (why : Refusal) → v ≡ Refused why → b ≡ cond (eqb (first_failing ts) 0) x b
+  pub left : (why : Refusal) → v ≡ Err why → b ≡ cond (eqb (first_failing ts) 0) x b
   left why h = beside_refused ts x b why (sym (ap verdict_number h) ∙ k)
 
 module _ (o : List ℕ) (l : length o ≡ 196608) where

@@ -13,7 +13,6 @@ use Rattle.laws.specs.declared.ChessRetraction.{ChessRetraction}
 use Rattle.laws.specs.Retractions.{packed, unpacked, InRange}
 use Rattle.laws.specs.Strictness.{strict}
 use Rattle.laws.specs.StrictLists.{In, here, there}
-use Rattle.refusal.specs.declared.Verdict.TheVariants.{Accepted}
 use Rattle.board.specs.declared.RetractableBoard.{RetractableBoard}
 use Rattle.board.specs.Gate.{pos_on, gate_of}
 use Rattle.retraction_gen.specs.declared.RetractionGen.{RetractionGen}
@@ -36,6 +35,7 @@ use Rattle.stepping.proofs.Pressing.{still_ended}
 use Rattle.screen.specs.declared.Screen.{Screen}
 use Rattle.screen.specs.declared.Pressed.{Pressed}
 use Rattle.screen.specs.Screens.{end_text, press_text, screen_after, Shown, ShowsAll, shown_of}
+use Rattle.refusal.specs.Refusals.{nothing_refused}
 
 -- any two answers agree
 pub shown_one : {s : Screen} {slots o x y : List ℕ} {r q : Pressed} → Shown s slots r o x → Shown s slots q o y → (r ≡ q) × (x ≡ y)
@@ -72,7 +72,7 @@ module _ (r : ChessRetraction) (h : InRange r) where
       by false d g e = there (g e)
 
 -- `strict` is said of a retraction exactly when it has a past
-pub strict_said : (b : RetractableBoard) (moves : List ChessRetraction) → gate_of b ≡ Accepted → IsStrictList b moves → (r : ChessRetraction) → InRange r
+pub strict_said : (b : RetractableBoard) (moves : List ChessRetraction) → gate_of b ≡ nothing_refused → IsStrictList b moves → (r : ChessRetraction) → InRange r
     → (is_in (packed r) (map packed moves) ≡ true) ↔ Past b r
 strict_said b moves g k r h = (
   (λ e. (k.members r).0 (from_slots r h moves (λ q z. strict_in (pos_on b) q ((strict_past b g q).1 ((k.members q).0 z))) e)),
@@ -104,7 +104,7 @@ shows_list s slots (t ∷ ts) (q ∷ l) y (r, o, out, p, e, k) =
     (subst (λ (x : Screen). ShowsAll x slots ts) m k))
 
 -- from `new_legal`, whatever it answers: n presses show the board's sequence, numbered from 1, and then the end
-pub whole_shown : (b : RetractableBoard) (m : Made) → Makes (list_tests b) (cursor_on b) m → m.verdict ≡ Accepted → (slots : List ℕ) (ts : List (List ℕ))
+pub whole_shown : (b : RetractableBoard) (m : Made) → Makes (list_tests b) (cursor_on b) m → m.verdict ≡ nothing_refused → (slots : List ℕ) (ts : List (List ℕ))
     → ShowsAll (record { board = b; cursor = m.cursor; listed = 0; strict = 0 }) slots ts → ts ≡ shown_of b slots (length ts) 0 0 (sequence_on b)
 whole_shown b m made e slots ts k =
     shows_list (record { board = b; cursor = m.cursor; listed = 0; strict = 0 }) slots ts (sequence_on b) (whole_sequence b m made e) k

@@ -9,7 +9,6 @@ ghost use Rattle.screen.specs.Screens.{board_before, retraction_text, end_text, 
 use super::{Pressed, Screen};
 use board::RetractableBoard;
 use laws::ChessRetraction;
-use refusal::Verdict;
 use retraction_gen::{Next, RetractionGen};
 
 // The board before a retraction; today's where un-make refuses it.
@@ -19,8 +18,8 @@ fn before(t: &[u64; 4096], b: RetractableBoard, r: ChessRetraction) -> Retractab
 {
     let v = board::inner::moving::unmake_gate(t, b, r);
     match v {
-        Verdict::Accepted => board::inner::moving::unmade(t, b, r),
-        Verdict::Refused(_) => b,
+        Ok(()) => board::inner::moving::unmade(t, b, r),
+        Err(_) => b,
     }
 }
 

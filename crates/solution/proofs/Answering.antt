@@ -11,8 +11,6 @@ use Rattle.laws.specs.declared.Position.{Position}
 use Rattle.laws.specs.Boards.{pos_at}
 use Rattle.laws.specs.StrictLists.{place}
 use Rattle.refusal.specs.declared.Refusal.{Refusal}
-use Rattle.refusal.specs.declared.Verdict.{Verdict}
-use Rattle.refusal.specs.declared.Verdict.TheVariants.{Accepted, Refused}
 use Rattle.board.specs.declared.Boarded.{Boarded}
 use Rattle.board.specs.Gate.{position_on, pos_on}
 use Rattle.text.specs.Entries.{Reads}
@@ -32,6 +30,8 @@ use Rattle.strict.proofs.Told.{strict_past}
 use Rattle.strict.proofs.Onward.{one_place}
 use Rattle.solution_lines.proofs.Walking.{first_one, first_none, none_too, first_too}
 use Rattle.solution_lines.proofs.Forms.{one_form}
+use Rattle.refusal.specs.Refusals.{Verdict, nothing_refused}
+use Rattle.std.specs.Prelude.{Ok, Err}
 
 -- the same list told in two ways
 module _ (S T : ChessRetraction → Type 0) (to : (r : ChessRetraction) → S r → T r) (back : (r : ChessRetraction) → T r → S r) (ls : List (List ℕ)) where
@@ -61,11 +61,11 @@ form_told ls f g x e = subst (TellsForm ls) e x
 
 -- the answers of the entry
 module _ (e : Edition) (t s : List ℕ) (b : Boarded) (x : Reads e t b) where
-  pub checks_refused : (why : Refusal) → b.verdict ≡ Refused why → Checks e t s (notChecked (positionRefused why))
+  pub checks_refused : (why : Refusal) → b.verdict ≡ Err why → Checks e t s (notChecked (positionRefused why))
   checks_refused why h =
       record { read = b; reads = x; told = subst (λ (v : Verdict). TellsOf v b.board (lines_of s) (notChecked (positionRefused why))) (sym h) refl }
 
-  pub checks_told : (a : Checked) (p : Position) → b.verdict ≡ Accepted → p ≡ position_on b.board → Tells (StrictAt (pos_at p)) (lines_of s) a → Checks e t s a
+  pub checks_told : (a : Checked) (p : Position) → b.verdict ≡ nothing_refused → p ≡ position_on b.board → Tells (StrictAt (pos_at p)) (lines_of s) a → Checks e t s a
   unfolding strict_for
   checks_told a p h k z =
       let past = strict_past b.board (read_accepted e t b x h).0 in
@@ -122,5 +122,5 @@ one_answer e t s a b x y =
     (subst (λ (z : Boarded). TellsOf z.verdict z.board (lines_of s) b) (read_one e t y.read x.read y.reads x.reads) y.told)
   where
     by : (r : Boarded) → Reads e t r → (v : Verdict) → r.verdict ≡ v → TellsOf v r.board (lines_of s) a → TellsOf v r.board (lines_of s) b → a ≡ b
-    by r z Accepted h p q = one_told (Past r.board) (one_place r.board (read_accepted e t r z h).0) (lines_of s) a b p q
-    by r z (Refused why) h p q = p ∙ sym q
+    by r z (Ok _) h p q = one_told (Past r.board) (one_place r.board (read_accepted e t r z h).0) (lines_of s) a b p q
+    by r z (Err why) h p q = p ∙ sym q

@@ -12,8 +12,6 @@ use Rattle.laws.specs.Retractions.{InRange}
 use Rattle.laws.specs.Strictness.{strict}
 use Rattle.laws.specs.StrictLists.{In}
 use Rattle.refusal.specs.declared.Refusal.{Refusal}
-use Rattle.refusal.specs.declared.Verdict.{Verdict}
-use Rattle.refusal.specs.declared.Verdict.TheVariants.{Accepted, Refused}
 use Rattle.board.specs.Gate.{pos_on}
 use Rattle.strict.specs.Demand.{Past, IsStrictList}
 use Rattle.solution_lines.specs.declared.Formed.TheVariants.{All}
@@ -29,9 +27,11 @@ use Rattle.text.proofs.RoundTrip.{read_accepted}
 use Rattle.strict.proofs.Told.{strict_past}
 use Rattle.solution_lines.proofs.Inverse.{says_one, says_something}
 use Rattle.solution.proofs.Answering.{one_answer}
+use Rattle.refusal.specs.Refusals.{Verdict, nothing_refused}
+use Rattle.std.specs.Prelude.{Ok, Err}
 
 -- of an accepted position, each of `Complete`, `Wrong k`, `Incomplete q`, 23 with its line and 24 is answered exactly when its rule holds
-module _ (e : Edition) (t s : List ℕ) (a : Checked) (x : Checks e t s a) (h : x.read.verdict ≡ Accepted) where
+module _ (e : Edition) (t s : List ℕ) (a : Checked) (x : Checks e t s a) (h : x.read.verdict ≡ nothing_refused) where
   pub exactly : (v : Checked) → (a ≡ v) ↔ Tells (Past x.read.board) (lines_of s) v
   exactly v = (
     (λ q. subst (Tells (Past x.read.board) (lines_of s)) q (subst (λ (z : Verdict). TellsOf z x.read.board (lines_of s) a) h x.told)),
@@ -99,18 +99,18 @@ module _ (e : Edition) (t s : List ℕ) (a : Checked) (x : Checks e t s a) (h : 
       )
 
 -- and a position is refused by its own number exactly when it is not accepted
-pub refused_exactly : (e : Edition) (t s : List ℕ) (a : Checked) (x : Checks e t s a) (why : Refusal) → (a ≡ notChecked (Position why)) ↔ (x.read.verdict ≡ Refused why)
+pub refused_exactly : (e : Edition) (t s : List ℕ) (a : Checked) (x : Checks e t s a) (why : Refusal) → (a ≡ notChecked (Position why)) ↔ (x.read.verdict ≡ Err why)
 refused_exactly e t s a x why = by x.read.verdict refl x.told
   where
-    by : (v : Verdict) → x.read.verdict ≡ v → TellsOf v x.read.board (lines_of s) a → (a ≡ notChecked (Position why)) ↔ (x.read.verdict ≡ Refused why)
-    by Accepted h z = (
+    by : (v : Verdict) → x.read.verdict ≡ v → TellsOf v x.read.board (lines_of s) a → (a ≡ notChecked (Position why)) ↔ (x.read.verdict ≡ Err why)
+    by (Ok _) h z = (
       (λ q. absurd (subst (Tells (Past x.read.board) (lines_of s)) q z)),
       (λ q. absurd (omega (arith, (let w : ◌≡◌ {A = ℕ} 0 1 = cc in w)))),
     )
-    by (Refused w) h z = ((λ q. let i : w ≡ why = cc in h ∙ cc), (λ q. let i : w ≡ why = cc in z ∙ cc))
+    by (Err w) h z = ((λ q. let i : w ≡ why = cc in h ∙ cc), (λ q. let i : w ≡ why = cc in z ∙ cc))
 
 -- "a claim of no last move is an empty set of lines": complete exactly when no retraction has a past
-pub no_lines : (e : Edition) (t : List ℕ) (a : Checked) (x : Checks e t [] a) → x.read.verdict ≡ Accepted → (a ≡ Complete) ↔ ((r : ChessRetraction) → Past x.read.board r → ⊥)
+pub no_lines : (e : Edition) (t : List ℕ) (a : Checked) (x : Checks e t [] a) → x.read.verdict ≡ nothing_refused → (a ≡ Complete) ↔ ((r : ChessRetraction) → Past x.read.board r → ⊥)
 unfolding lines_of
 no_lines e t a x h = (
   (λ q r z. omega (arith, (((exactly e t [] a x h Complete).0 q).2 r z).1)),

@@ -1,11 +1,9 @@
 -- What is answered to a solution, document 02's request 10.
-use Rattle.std.specs.Prelude.{◌≡◌, ◌⊎◌, List, ℕ, ◌≤◌, length}
+use Rattle.std.specs.Prelude.{◌≡◌, ◌⊎◌, List, ℕ, ◌≤◌, length, Ok, Err}
 use Rattle.laws.specs.declared.ChessRetraction.{ChessRetraction}
 use Rattle.laws.specs.declared.Edition.{Edition}
 use Rattle.laws.specs.StrictLists.{place}
-use Rattle.refusal.specs.declared.Verdict.{Verdict}
-use Rattle.refusal.specs.declared.Verdict.TheVariants.{Accepted, Refused}
-use Rattle.refusal.specs.Refusals.{number_of}
+use Rattle.refusal.specs.Refusals.{number_of, Verdict}
 use Rattle.board.specs.declared.RetractableBoard.{RetractableBoard}
 use Rattle.board.specs.declared.Boarded.{Boarded}
 use Rattle.text.specs.Entries.{Reads}
@@ -45,8 +43,8 @@ Tells S ls (notChecked (Position why)) = ⊥
 
 -- "14 and 1 to 6 for the position" come first
 abbrev pub TellsOf : Verdict → RetractableBoard → List (List ℕ) → Checked → Type 0
-TellsOf (Refused why) b ls a = a ≡ notChecked (Position why)
-TellsOf Accepted b ls a = Tells (Past b) ls a
+TellsOf (Err why) b ls a = a ≡ notChecked (Position why)
+TellsOf (Ok _) b ls a = Tells (Past b) ls a
 
 -- the answer to the text t of a position, read in the edition e, and the bytes s of its solution
 pub record Checks (e : Edition) (t s : List ℕ) (a : Checked) : Type 0 where

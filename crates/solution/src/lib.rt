@@ -5,7 +5,7 @@ ghost use Rattle.std.specs.Prelude.{◌≡◌};
 ghost use Rattle.solution.specs.Verdicts.{why_number, Checks};
 
 use laws::{ChessRetraction, Edition};
-use refusal::{Refusal, Verdict};
+use refusal::Refusal;
 
 pub mod inner; // inner.rt: the verdict on the lines of an accepted position; inner/marks.rt
 
@@ -45,8 +45,8 @@ pub fn check(position: &[u8], edition: Edition, lines: &[u8]) -> Checked
     let b = text::inner::read(&t, position, edition);
     let v = b.verdict;
     match v {
-        Verdict::Refused(why) => Checked::Refused(Why::Position(why)),
-        Verdict::Accepted => {
+        Err(why) => Checked::Refused(Why::Position(why)),
+        Ok(()) => {
             let board = b.board;
             inner::judged(&t, strict::inner::today(board), lines)
         }

@@ -8,8 +8,6 @@ use lib.ListN.{length, get_or, take, drop, length-drop, take-append-drop}
 use lib.Seq.{length-take-le, take_all, take-take, drop-append-le, get_or-take}
 use Rattle.laws.specs.declared.ChessRetraction.{ChessRetraction}
 use Rattle.laws.specs.declared.Edition.TheVariants.{A}
-use Rattle.refusal.specs.declared.Verdict.{Verdict}
-use Rattle.refusal.specs.declared.Verdict.TheVariants.{Accepted, Refused}
 use Rattle.board.specs.declared.Boarded.{Boarded}
 use Rattle.text.specs.Entries.{Reads, said, unsaid}
 use Rattle.strict.specs.Demand.{Past}
@@ -26,6 +24,8 @@ use Rattle.position_text.proofs.Inverse.{says_short}
 use Rattle.text.proofs.RoundTrip.{read_accepted}
 use Rattle.reply.proofs.Shown.{text_short}
 use Rattle.solution_lines.proofs.Beginnings.{same_form}
+use Rattle.refusal.specs.Refusals.{Verdict, nothing_refused}
+use Rattle.std.specs.Prelude.{Err}
 
 -- where the lines' first bytes tell the form, they tell the answer
 tells_enough : (S : ChessRetraction → Type 0) (u v : List ℕ) → 36874 ≤ length u → (a : Checked) → Tells S (lines_of u) a → Tells S (lines_of (u ++ v)) a
@@ -37,7 +37,7 @@ tells_enough S u v h (notChecked Many) x = (same_form u v h formMany x).0
 tells_enough S u v h (notChecked (Position why)) x = absurd x
 
 -- a text that is accepted is short
-read_short : (t : List ℕ) (r : Boarded) → Reads A t r → r.verdict ≡ Accepted → length t ≤ 81
+read_short : (t : List ℕ) (r : Boarded) → Reads A t r → r.verdict ≡ nothing_refused → length t ≤ 81
 read_short t r x e = subst (λ (y : List ℕ). length y ≤ 81) (read_accepted A t r x e).1 (text_short r.board)
 
 -- the first newline of a file
@@ -82,8 +82,8 @@ module _ (f : List ℕ) (long : 65536 < length f) where
         ∙ drop-append-le (suc (stop_of g)) g (drop 65536 f) (omega (arith, g_long))
 
     told_too : (r : Boarded) → Reads A (position_in g) r → (v : Verdict) → r.verdict ≡ v → (a : Checked) → TellsOf v r.board (lines_of (solution_in g)) a → TellsOf v r.board (lines_of (solution_in f)) a
-    told_too r x (Refused why) e a t = t
-    told_too r x Accepted e a t =
+    told_too r x (Err why) e a t = t
+    told_too r x nothing_refused e a t =
         let size = length-take-le (stop_of g) g (omega (arith, g_long)) in
         subst (λ (y : List ℕ). Tells (Past r.board) (lines_of y) a) (sym more_lines)
         (tells_enough (Past r.board) (solution_in g) (drop 65536 f) (omega (arith, length-drop (suc (stop_of g)) g, g_long, read_short (position_in g) r x e, size)) a t)
@@ -114,8 +114,8 @@ module _ (f : List ℕ) (long : 65536 < length f) where
         unsaid (λ p s. omega (arith, says_short A (position_in f) p s, too_long f far_stop (omega (arith, (stop_within f 0 (length f)).1)))) e k
 
     refused_too : (r : Boarded) → Reads A (position_in g) r → (v : Verdict) → r.verdict ≡ v → (a : Checked) → TellsOf v r.board (lines_of (solution_in g)) a → TellsOf v r.board (lines_of (solution_in f)) a
-    refused_too r x (Refused why) e a t = t
-    refused_too r x Accepted e a t =
+    refused_too r x (Err why) e a t = t
+    refused_too r x nothing_refused e a t =
         absurd (omega (arith, read_short (position_in g) r x e, too_long g h (omega (arith, within, g_long))))
 
     beyond : (a : Checked) → Checks A (position_in g) (solution_in g) a → Checks A (position_in f) (solution_in f) a

@@ -158,15 +158,15 @@ fn open(
     let made = m.verdict;
     let v = first_of(read, made);
     match v {
-        Verdict::Refused(why) => closed(rt, screen, why, out),
-        Verdict::Accepted => listed(rt, t, screen, strict, out),
+        Err(why) => closed(rt, screen, why, out),
+        Ok(()) => listed(rt, t, screen, strict, out),
     }
 }
 
 fn first_of(a: Verdict, b: Verdict) -> Verdict {
     match a {
-        Verdict::Refused(why) => Verdict::Refused(why),
-        Verdict::Accepted => b,
+        Err(why) => Err(why),
+        Ok(()) => b,
     }
 }
 

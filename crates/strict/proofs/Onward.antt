@@ -10,7 +10,6 @@ use Rattle.laws.specs.Retractions.{InRange}
 use Rattle.laws.specs.Strictness.{strict}
 use Rattle.laws.specs.StrictLists.{place, retraction_at}
 use Rattle.refusal.specs.declared.Refusal.{Refusal}
-use Rattle.refusal.specs.declared.Verdict.TheVariants.{Accepted, Refused}
 use Rattle.board.specs.declared.RetractableBoard.{RetractableBoard}
 use Rattle.board.specs.Gate.{pos_on, gate_of}
 use Rattle.strict_test.specs.inner.Strictly.{strict_for}
@@ -26,6 +25,8 @@ use Rattle.refusal.proofs.Saying.{never, number_one}
 use Rattle.board.proofs.Numbers.{gate_refuses, gate_passes, passed_gate}
 use Rattle.strict.proofs.Told.{strict_past, place_placed}
 use Rattle.strict.proofs.Unique.{no_refusal}
+use Rattle.refusal.specs.Refusals.{nothing_refused}
+use Rattle.std.specs.Prelude.{Err}
 
 pub place_in : (r : ChessRetraction) → InRange r → place r < 49152
 place_in r h = go r.unpromotion
@@ -34,7 +35,7 @@ place_in r h = go r.unpromotion
     go true = omega (arith, h.source_in, h.target_in, h.uncaptured_in)
     go false = omega (arith, h.source_in, h.target_in, h.uncaptured_in)
 
-module _ (b : RetractableBoard) (h : gate_of b ≡ Accepted) where
+module _ (b : RetractableBoard) (h : gate_of b ≡ nothing_refused) where
   in_range : (x : ChessRetraction) → Past b x → InRange x
   in_range x z = strict_in (pos_on b) x ((strict_past b h x).1 z)
 
@@ -83,12 +84,12 @@ module _ (b : RetractableBoard) (h : gate_of b ≡ Accepted) where
   pub found_end : (i j : ℕ) → Next (test_of (pos_on b)) i j → 49152 ≤ j → Finds b i NoMore
   found_end i j x l = finds NoMore i (λ q z m. (found_none j l).found h q z (not_skipped i j x.skips q z m))
 
-pub found_refused : (b : RetractableBoard) (i : ℕ) (why : Refusal) → gate_of b ≡ Refused why → Finds b i (notFound why)
+pub found_refused : (b : RetractableBoard) (i : ℕ) (why : Refusal) → gate_of b ≡ Err why → Finds b i (notFound why)
 found_refused b i why h = record { number = gate_refuses b (gate_of b) refl why h; found = λ a. absurd (never why (sym h ∙ a)) }
 
 -- any two answers agree
 module _ (b : RetractableBoard) (i : ℕ) where
-  same_found : (p q : Placed) → gate_of b ≡ Accepted → FoundFrom b i (At p) → FoundFrom b i (At q) → p ≡ q
+  same_found : (p q : Placed) → gate_of b ≡ nothing_refused → FoundFrom b i (At p) → FoundFrom b i (At q) → p ≡ q
   same_found p q h x y = λ k. record { place = places k; retraction = same k }
     where
       equal : {m n : ℕ} → m ≤ n → n ≤ m → m ≡ n

@@ -17,8 +17,7 @@ use Rattle.squares.specs.Members.{numbers_from}
 use Rattle.laws.specs.StrictLists.{place, retraction_at, strict_places, Ascending, In, here}
 use Rattle.laws.specs.Boards.{BoardPast}
 use Rattle.refusal.specs.declared.Refusal.{Refusal}
-use Rattle.refusal.specs.declared.Verdict.TheVariants.{Accepted, Refused}
-use Rattle.refusal.specs.Refusals.{number_of}
+use Rattle.refusal.specs.Refusals.{number_of, nothing_refused}
 use Rattle.refusal.specs.Said.{first_failing, told, Writes}
 use Rattle.board.specs.declared.RetractableBoard.{RetractableBoard}
 use Rattle.board.specs.Gate.{pos_on, to_laws, gate_of, board_tests}
@@ -36,6 +35,7 @@ use Rattle.refusal.proofs.Writing.{no_both, writes_behind, writes_refused}
 use Rattle.board.proofs.Passing.{gate_passed, gate_by, accepted_by_gate}
 use Rattle.board.proofs.Numbers.{gate_refuses, gate_passes}
 use Rattle.strict_search.proofs.Remaining.{rest, all_rest, at_end, one_more}
+use Rattle.std.specs.Prelude.{Err}
 
 abbrev from_laws : Board → RetractableBoard
 from_laws e = record {
@@ -83,7 +83,7 @@ places_back f i (suc n) h = go (f i) (places_back f (suc i) n (omega arith))
     go false e = e
 
 -- demand 3 of an accepted board
-module _ (b : RetractableBoard) (h : gate_of b ≡ Accepted) where
+module _ (b : RetractableBoard) (h : gate_of b ≡ nothing_refused) where
   lawful : accepted (pos_on b) ≡ true
   lawful = (gate_passed b h).lawful
 
@@ -111,7 +111,7 @@ module _ (b : RetractableBoard) (h : gate_of b ≡ Accepted) where
           subst (λ (x : ChessRetraction). In x (map retraction_at (strict_places (pos_on b)))) (placed_place r h) (map_in retraction_at ((strict_member (pos_on b) r h).1 s))
 
 -- a strict place is a last move, and where there is none there is no last move
-module _ (b : RetractableBoard) (h : gate_of b ≡ Accepted) (j : ℕ) (x : Next (test_of (pos_on b)) 0 j) where
+module _ (b : RetractableBoard) (h : gate_of b ≡ nothing_refused) (j : ℕ) (x : Next (test_of (pos_on b)) 0 j) where
   whole : (l : List ChessRetraction) → rest (test_of (pos_on b)) 0 ≡ l → IsStrictList b l
   whole l e = subst (IsStrictList b) (all_rest (pos_on b) ∙ e) (demanded b h)
 
@@ -143,18 +143,18 @@ module _ (b : RetractableBoard) (h : gate_of b ≡ Accepted) (j : ℕ) (x : Next
 
 -- the answers behind the gate
 module _ (b : RetractableBoard) where
-  pub listed_told : {s after : List ℕ} (r : Listed) → gate_of b ≡ Accepted → Writes [] (map packed (strict_moves (pos_on b))) s (listed_says r) after → Lists b s r after
+  pub listed_told : {s after : List ℕ} (r : Listed) → gate_of b ≡ nothing_refused → Writes [] (map packed (strict_moves (pos_on b))) s (listed_says r) after → Lists b s r after
   listed_told r h e = record { moves = strict_moves (pos_on b); exact = demanded b; into = writes_behind (gate_passes b (gate_of b) refl h) e }
 
-  pub counted_told : {n : ℕ} → gate_of b ≡ Accepted → n ≡ length (strict_moves (pos_on b)) → Counts b (Count n)
+  pub counted_told : {n : ℕ} → gate_of b ≡ nothing_refused → n ≡ length (strict_moves (pos_on b)) → Counts b (Count n)
   counted_told h e = record {
     moves = strict_moves (pos_on b);
     exact = demanded b;
-    answer = ap (λ (k : ℕ). told (k ∷ [])) e ∙ behind_by Accepted (board_tests b) _ (sym (gate_passes b (gate_of b) refl h));
+    answer = ap (λ (k : ℕ). told (k ∷ [])) e ∙ behind_by nothing_refused (board_tests b) _ (sym (gate_passes b (gate_of b) refl h));
   }
 
-  module _ (why : Refusal) (h : gate_of b ≡ Refused why) where
-    nothing_asked : gate_of b ≡ Accepted → IsStrictList b []
+  module _ (why : Refusal) (h : gate_of b ≡ Err why) where
+    nothing_asked : gate_of b ≡ nothing_refused → IsStrictList b []
     nothing_asked a = absurd (never why (sym h ∙ a))
 
     number : number_of why ≡ first_failing (board_tests b)
@@ -164,7 +164,7 @@ module _ (b : RetractableBoard) where
     listed_refused s = record { moves = []; exact = nothing_asked; into = writes_refused why number }
 
     pub counted_refused : Counts b (notCounted why)
-    counted_refused = record { moves = []; exact = nothing_asked; answer = behind_by (Refused why) (board_tests b) (told (0 ∷ [])) number }
+    counted_refused = record { moves = []; exact = nothing_asked; answer = behind_by (Err why) (board_tests b) (told (0 ∷ [])) number }
 
     pub answers_refused : Answers b (notAnswered why)
     answers_refused = record { number = number; exists = λ a. absurd (never why (sym h ∙ a)); none = λ a. absurd (never why (sym h ∙ a)) }

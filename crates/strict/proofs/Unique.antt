@@ -9,8 +9,7 @@ use Rattle.laws.specs.declared.ChessRetraction.{ChessRetraction}
 use Rattle.laws.specs.Retractions.{packed}
 use Rattle.laws.specs.StrictLists.{place, Below, Ascending, In, here, there}
 use Rattle.refusal.specs.declared.Refusal.{Refusal}
-use Rattle.refusal.specs.declared.Verdict.TheVariants.{Accepted, Refused}
-use Rattle.refusal.specs.Refusals.{number_of}
+use Rattle.refusal.specs.Refusals.{number_of, nothing_refused}
 use Rattle.refusal.specs.Said.{first_failing, number_said, told}
 use Rattle.board.specs.declared.RetractableBoard.{RetractableBoard}
 use Rattle.board.specs.Gate.{gate_of, board_tests}
@@ -26,6 +25,7 @@ use Rattle.refusal.proofs.Tested.{behind_any}
 use Rattle.refusal.proofs.Writing.{no_value, writes_any}
 use Rattle.board.proofs.Numbers.{passed_gate}
 use Rattle.slots.proofs.Telling.{one_listed}
+use Rattle.std.specs.Prelude.{Err}
 
 in_none : {r : ChessRetraction} → In r [] → ⊥
 in_none z = elim z [ ]
@@ -67,7 +67,7 @@ one_list b l k x y =
     same_list l k x.order y.order (λ r. ((λ z. (y.members r).1 ((x.members r).0 z)), (λ z. (x.members r).1 ((y.members r).0 z))))
 
 -- the strict list of a board counts only where the gate lets it pass
-one_where : (b : RetractableBoard) (l k : List ChessRetraction) → (gate_of b ≡ Accepted → IsStrictList b l) → (gate_of b ≡ Accepted → IsStrictList b k)
+one_where : (b : RetractableBoard) (l k : List ChessRetraction) → (gate_of b ≡ nothing_refused → IsStrictList b l) → (gate_of b ≡ nothing_refused → IsStrictList b k)
     → first_failing (board_tests b) ≡ 0 → l ≡ k
 one_where b l k x y h = let a = passed_gate b h in one_list b l k (x a) (y a)
 
@@ -91,7 +91,7 @@ one_count b r q x y =
 
 -- no refusal has the number 0
 pub no_refusal : {A : Type 0} (why : Refusal) → 0 ≡ number_of why → A
-no_refusal why e = absurd (never why (sym (verdict_one Accepted (Refused why) e)))
+no_refusal why e = absurd (never why (sym (verdict_one nothing_refused (Err why) e)))
 
 -- "no last move" and a last move are never both allowed
 not_both : {A : Type 0} (b : RetractableBoard) → Answers b Exists → Answers b NoLastMove → A

@@ -5,7 +5,6 @@ use Rattle.laws.specs.Retractions.{packed}
 use Rattle.laws.specs.Strictness.{Gives}
 use Rattle.laws.specs.StrictLists.{place, Ascending, In}
 use Rattle.laws.specs.Boards.{Shaped}
-use Rattle.refusal.specs.declared.Verdict.TheVariants.{Accepted}
 use Rattle.refusal.specs.Said.{first_failing, Said, number_said, told, refusal, behind, Writes}
 use Rattle.board.specs.declared.RetractableBoard.{RetractableBoard}
 use Rattle.board.specs.Gate.{pos_on, to_laws, gate_of, board_tests}
@@ -15,12 +14,13 @@ use Rattle.strict.specs.declared.Counted.{Counted}
 use Rattle.strict.specs.declared.Counted.TheVariants.{Count, Refused as notCounted}
 use Rattle.strict.specs.declared.LastMove.{LastMove}
 use Rattle.strict.specs.declared.LastMove.TheVariants.{Exists, NoLastMove, Refused as notAnswered}
+use Rattle.refusal.specs.Refusals.{nothing_refused}
 
 -- "some accepted earlier board with souls at most 8 a side has that move as a legal one, and the move gives today's men, turn, castling
 -- rights and, unless unknown, today's en passant state", and the double step that it names was possible: e is a board that passes 1 to 7, k the kind
 -- promoted to
 abbrev pub Past : RetractableBoard → ChessRetraction → Type 0
-Past b r = (e : RetractableBoard) × (k : ℕ) × Shaped (to_laws e) × (gate_of e ≡ Accepted) × Gives (pos_on e) (pos_on b) r k
+Past b r = (e : RetractableBoard) × (k : ℕ) × Shaped (to_laws e) × (gate_of e ≡ nothing_refused) × Gives (pos_on e) (pos_on b) r k
 
 -- "it holds a retraction, once and in a stated order, exactly when" it has a past; "Order: source, target, uncaptured, un-promotion"
 pub record IsStrictList (b : RetractableBoard) (l : List ChessRetraction) : Type 0 where
@@ -30,7 +30,7 @@ pub record IsStrictList (b : RetractableBoard) (l : List ChessRetraction) : Type
 -- "This list .. go to lent 16-bit slots, packed, with the length; slots beyond keep their numbers"; 1 to 7, then "strict list .. 13"
 pub record Lists (b : RetractableBoard) (s : List ℕ) (r : Listed) (after : List ℕ) : Type 0 where
   pub moves : List ChessRetraction
-  pub exact : gate_of b ≡ Accepted → IsStrictList b moves
+  pub exact : gate_of b ≡ nothing_refused → IsStrictList b moves
   pub into : Writes (board_tests b) (map packed moves) s (listed_says r) after
 
 -- the length alone: 1 to 7
@@ -40,7 +40,7 @@ counted_says (notCounted why) = refusal why
 
 pub record Counts (b : RetractableBoard) (r : Counted) : Type 0 where
   pub moves : List ChessRetraction
-  pub exact : gate_of b ≡ Accepted → IsStrictList b moves
+  pub exact : gate_of b ≡ nothing_refused → IsStrictList b moves
   pub answer : counted_says r ≡ behind (board_tests b) (told (length moves ∷ []))
 
 -- whether there is one: 1, or 0 for "no last move"
@@ -52,5 +52,5 @@ last_says (notAnswered why) = refusal why
 -- "No last move" is said "exactly when no such board and move exist"
 pub record Answers (b : RetractableBoard) (r : LastMove) : Type 0 where
   pub number : number_said (last_says r) ≡ first_failing (board_tests b)
-  pub exists : gate_of b ≡ Accepted → (last_says r ≡ told (1 ∷ [])) ↔ ((q : ChessRetraction) × Past b q)
-  pub none : gate_of b ≡ Accepted → (last_says r ≡ told (0 ∷ [])) ↔ ((q : ChessRetraction) → Past b q → ⊥)
+  pub exists : gate_of b ≡ nothing_refused → (last_says r ≡ told (1 ∷ [])) ↔ ((q : ChessRetraction) × Past b q)
+  pub none : gate_of b ≡ nothing_refused → (last_says r ≡ told (0 ∷ [])) ↔ ((q : ChessRetraction) → Past b q → ⊥)

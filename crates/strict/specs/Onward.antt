@@ -2,8 +2,7 @@
 use Rattle.std.specs.Prelude.{◌≡◌, ℕ, ◌≤◌}
 use Rattle.laws.specs.declared.ChessRetraction.{ChessRetraction}
 use Rattle.laws.specs.StrictLists.{place}
-use Rattle.refusal.specs.declared.Verdict.TheVariants.{Accepted}
-use Rattle.refusal.specs.Refusals.{number_of}
+use Rattle.refusal.specs.Refusals.{number_of, nothing_refused}
 use Rattle.refusal.specs.Said.{first_failing}
 use Rattle.board.specs.declared.RetractableBoard.{RetractableBoard}
 use Rattle.board.specs.Gate.{gate_of, board_tests}
@@ -35,4 +34,4 @@ found_number (notFound why) = number_of why
 -- 1 to 7, and then what is found from i on
 pub record Finds (b : RetractableBoard) (i : ℕ) (r : Found) : Type 0 where
   pub number : found_number r ≡ first_failing (board_tests b)
-  pub found : gate_of b ≡ Accepted → FoundFrom b i r
+  pub found : gate_of b ≡ nothing_refused → FoundFrom b i r

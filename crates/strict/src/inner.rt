@@ -1,7 +1,7 @@
 // The strict list of a board that its gate let pass; and the entries, each with its gate. `t` is the table of squares between, lent.
 ghost use Rattle.std.specs.Prelude.{◌≡◌};
 ghost use Rattle.geometry.specs.Lines.{IsBetween};
-ghost use Rattle.refusal.specs.declared.Verdict.TheVariants.{Accepted};
+ghost use Rattle.refusal.specs.Refusals.{nothing_refused};
 ghost use Rattle.board.specs.Gate.{position_on, gate_of};
 ghost use Rattle.strict_test.specs.inner.Strictly.{Today};
 ghost use Rattle.strict.specs.Demand.{Lists, Counts, Answers};
@@ -10,12 +10,11 @@ ghost use Rattle.strict.specs.Onward.{Finds};
 use super::{Counted, Found, LastMove, Placed};
 use board::RetractableBoard;
 use laws::Position;
-use refusal::Verdict;
 use slots::Listed;
 
 // The position of a board that its gate let pass.
 pub fn today(b: RetractableBoard) -> Position
-    requires { gate_of b ≡ Accepted }
+    requires { gate_of b ≡ nothing_refused }
     ensures { (result ≡ position_on b) × Today result }
 {
     board::inner::position_of(b)
@@ -23,7 +22,7 @@ pub fn today(b: RetractableBoard) -> Position
 
 // The strict retractions of a board that its gate let pass, into slots: refusal 13.
 pub fn list(t: &[u64; 4096], b: RetractableBoard, slots: &mut [u16]) -> Listed
-    requires { IsBetween t.now × (gate_of b ≡ Accepted) }
+    requires { IsBetween t.now × (gate_of b ≡ nothing_refused) }
     ensures { Lists b slots.old result slots.new }
 {
     let p = today(b);
@@ -37,8 +36,8 @@ pub fn strict_into(t: &[u64; 4096], b: RetractableBoard, slots: &mut [u16]) -> L
 {
     let v = board::inner::gate(t, b);
     match v {
-        Verdict::Refused(why) => Listed::Refused(why),
-        Verdict::Accepted => list(t, b, slots),
+        Err(why) => Listed::Refused(why),
+        Ok(()) => list(t, b, slots),
     }
 }
 
@@ -49,8 +48,8 @@ pub fn strict_count(t: &[u64; 4096], b: RetractableBoard) -> Counted
 {
     let v = board::inner::gate(t, b);
     match v {
-        Verdict::Refused(why) => Counted::Refused(why),
-        Verdict::Accepted => {
+        Err(why) => Counted::Refused(why),
+        Ok(()) => {
             let p = today(b);
             Counted::Count(strict_search::inner::count(t, p))
         }
@@ -64,8 +63,8 @@ pub fn last_move(t: &[u64; 4096], b: RetractableBoard) -> LastMove
 {
     let v = board::inner::gate(t, b);
     match v {
-        Verdict::Refused(why) => LastMove::Refused(why),
-        Verdict::Accepted => {
+        Err(why) => LastMove::Refused(why),
+        Ok(()) => {
             let p = today(b);
             let first = strict_search::inner::next_from(t, p, 0);
             if first < strict_search::inner::PLACES {
@@ -83,8 +82,8 @@ pub fn strict_from(t: &[u64; 4096], b: RetractableBoard, start: usize) -> Found
 {
     let v = board::inner::gate(t, b);
     match v {
-        Verdict::Refused(why) => Found::Refused(why),
-        Verdict::Accepted => {
+        Err(why) => Found::Refused(why),
+        Ok(()) => {
             if start >= strict_search::inner::PLACES {
                 return Found::NoMore;
             }

@@ -18,7 +18,6 @@ use Rattle.laws.specs.Acceptance.{kings_ok, state_ok, quiet, accepted}
 use Rattle.laws.specs.Moves.{way, safe, is_named}
 use Rattle.laws.specs.Unmaking.{unmade}
 use Rattle.refusal.specs.declared.Refusal.{Refusal}
-use Rattle.refusal.specs.declared.Verdict.TheVariants.{Accepted, Refused}
 use Rattle.laws.specs.Boards.{Clean, men_in, pos_at}
 use Rattle.laws.specs.declared.Position.{Position}
 use Rattle.laws.specs.declared.Way.{Way}
@@ -34,6 +33,8 @@ use Rattle.laws.proofs.Passes.{Passes, unmade_passes}
 use Rattle.refusal.proofs.Saying.{never}
 use Rattle.position.proofs.Editing.{is_man}
 use Rattle.unmake.proofs.Returned.{accepted_can, answer_is, unmade_shown, unmade_clean}
+use Rattle.refusal.specs.Refusals.{nothing_refused}
+use Rattle.std.specs.Prelude.{Err}
 
 -- a strict retraction passes 9 to 12
 pub strict_can : (p : Pos) (r : ChessRetraction) → strict_for p r ≡ true → can_retract p r ≡ true
@@ -70,16 +71,16 @@ module _ (p : Pos) (r : ChessRetraction) (ok : accepted p ≡ true) (R : can_ret
   strict_by = bool_ext _ _ strict_then strict_so
 
 module _ (p : Position) (r : ChessRetraction) (today : Today p) (u : Positioned) (is : u ≡ unmade_to (pos_at p) r) where
-  can : u.verdict ≡ Accepted → can_retract (pos_at p) r ≡ true
+  can : u.verdict ≡ nothing_refused → can_retract (pos_at p) r ≡ true
   can k = accepted_can (pos_at p) r (sym (ap (λ (x : Positioned). x.verdict) is) ∙ k)
 
-  position_is : u.verdict ≡ Accepted → u.position ≡ unmade_for (pos_at p) r
+  position_is : u.verdict ≡ nothing_refused → u.position ≡ unmade_for (pos_at p) r
   position_is k = ap (λ (x : Positioned). x.position) (is ∙ answer_is (pos_at p) r (can k))
 
-  shown : u.verdict ≡ Accepted → pos_at u.position ≡ unmade (pos_at p) r
+  shown : u.verdict ≡ nothing_refused → pos_at u.position ≡ unmade (pos_at p) r
   shown k = ap (λ (q : Position). pos_at q) (position_is k) ∙ unmade_shown p r (can k)
 
-  pub earlier_ready : u.verdict ≡ Accepted → Earlier u.position r
+  pub earlier_ready : u.verdict ≡ nothing_refused → Earlier u.position r
   earlier_ready k = record {
     sound = subst (λ (q : Position). Clean q.pieces q.colors) (sym (position_is k)) (unmade_clean p r (can k));
     kings = subst (λ (q : Pos). kings_ok q.men ≡ true) (sym (shown k)) (unmade_passes (pos_at p) r today.lawful (can k)).kings;
@@ -88,10 +89,10 @@ module _ (p : Position) (r : ChessRetraction) (today : Today p) (u : Positioned)
     target_in = (back (pos_at p) r (can k)).can.target_in;
   }
 
-  pub strict_told : u.verdict ≡ Accepted → earlier_for (pos_at u.position) r p.passant ≡ strict_for (pos_at p) r
+  pub strict_told : u.verdict ≡ nothing_refused → earlier_for (pos_at u.position) r p.passant ≡ strict_for (pos_at p) r
   strict_told k = ap (λ (q : Pos). earlier_for q r p.passant) (shown k) ∙ strict_by (pos_at p) r today.lawful (can k)
 
-  pub strict_refused : (why : Refusal) → u.verdict ≡ Refused why → false ≡ strict_for (pos_at p) r
+  pub strict_refused : (why : Refusal) → u.verdict ≡ Err why → false ≡ strict_for (pos_at p) r
   strict_refused why k = go (strict_for (pos_at p) r) refl
     where
       go : (b : Bool) → strict_for (pos_at p) r ≡ b → false ≡ b

@@ -11,7 +11,6 @@ ghost use Rattle.laws.specs.Boards.{Clean, men_in, pos_at};
 ghost use Rattle.strict_test.specs.inner.Strictly.{counts_for, safe_for, none_for, agrees_for, earlier_for, strict_for, Today, Earlier};
 
 use laws::{ChessRetraction, Color, EnPassantFlag, Position, Side, Way};
-use refusal::Verdict;
 
 pub mod coming; // coming.rt: which squares a man can have come from
 
@@ -116,8 +115,8 @@ pub fn is_strict(t: &[u64; 4096], p: Position, r: ChessRetraction) -> bool
     let u = unmake::inner::unmake(t, p, r);
     let v = u.verdict;
     match v {
-        Verdict::Refused(_) => false,
-        Verdict::Accepted => {
+        Err(_) => false,
+        Ok(()) => {
             let e = u.position;
             let today = p.passant;
             earlier_ok(e, r, today)

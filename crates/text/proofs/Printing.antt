@@ -7,8 +7,6 @@ use lib.Dec.{eqb, leb}
 use lib.ListN.{length}
 use Rattle.squares.specs.Tests.{◌and◌}
 use Rattle.refusal.specs.declared.Refusal.{Refusal}
-use Rattle.refusal.specs.declared.Verdict.{Verdict}
-use Rattle.refusal.specs.declared.Verdict.TheVariants.{Accepted, Refused as refused}
 use Rattle.refusal.specs.Said.{first_failing, Said, number_said, Writes}
 use Rattle.board.specs.declared.RetractableBoard.{RetractableBoard}
 use Rattle.board.specs.Gate.{gate_of, board_tests}
@@ -20,6 +18,8 @@ use Rattle.text.specs.Entries.{text_on, printed_says}
 use Rattle.refusal.proofs.Saying.{number_one}
 use Rattle.refusal.proofs.Writing.{no_value, no_room, writes_behind, writes_refused, writes_one, Written, Roomless, Failed, tells_count, tells_room, tells_refused}
 use Rattle.board.proofs.Numbers.{gate_refuses, gate_passes, room_seven}
+use Rattle.refusal.specs.Refusals.{Verdict, nothing_refused}
+use Rattle.std.specs.Prelude.{Err}
 
 module _ (b : RetractableBoard) where
   abbrev Prints : List ℕ → Printed → List ℕ → Type 0
@@ -27,10 +27,10 @@ module _ (b : RetractableBoard) where
 
   -- behind the gate
   module _ (v : Verdict) (e : v ≡ gate_of b) where
-    pub not_printed : {o : List ℕ} (why : Refusal) → v ≡ refused why → Prints o (Refused why) o
+    pub not_printed : {o : List ℕ} (why : Refusal) → v ≡ Err why → Prints o (Refused why) o
     not_printed why h = writes_refused why (gate_refuses b v e why h)
 
-    pub printed_so : {o after : List ℕ} (c : Copied) (r : Printed) → v ≡ Accepted → Writes [] (text_on b) o (copied_says c) after → printed_says r ≡ copied_says c → Prints o r after
+    pub printed_so : {o after : List ℕ} (c : Copied) (r : Printed) → v ≡ nothing_refused → Writes [] (text_on b) o (copied_says c) after → printed_says r ≡ copied_says c → Prints o r after
     printed_so {o} {after} c r h k d = writes_behind (gate_passes b v e h) (subst (λ (x : Said). Writes [] (text_on b) o x after) (sym d) k)
 
   -- what each answer tells

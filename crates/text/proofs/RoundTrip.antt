@@ -17,9 +17,7 @@ use Rattle.laws.specs.Men.{Men}
 use Rattle.laws.specs.Acceptance.{kings_ok, pawns_ok, rights_ok, state_ok, quiet}
 use Rattle.laws.specs.Boards.{men_ok, men_in, pos_at}
 use Rattle.refusal.specs.declared.Refusal.TheVariants.{Men as men, Kings as kings, Pawn as pawn, Rights as rights, Passant as passant, Check as check, Stale, Text}
-use Rattle.refusal.specs.declared.Verdict.{Verdict}
-use Rattle.refusal.specs.declared.Verdict.TheVariants.{Accepted, Refused}
-use Rattle.refusal.specs.Refusals.{verdict_number, unless, and_then}
+use Rattle.refusal.specs.Refusals.{verdict_number, unless, and_then, Verdict, nothing_refused}
 use Rattle.accept.specs.Verdicts.{judged_of, raw_tests}
 use Rattle.refusal.specs.Said.{◌else◌, first_failing, Said, Writes}
 use Rattle.board.specs.declared.RetractableBoard.{RetractableBoard}
@@ -45,6 +43,7 @@ use Rattle.board.proofs.Passing.{new_is, gate_sound, gate_judged, worked_whole}
 use Rattle.board.proofs.Moving.{fresh_worked}
 use Rattle.board.proofs.Numbers.{gate_passes}
 use Rattle.position_text.proofs.Inverse.{says_one, says_short}
+use Rattle.std.specs.Prelude.{Err}
 
 -- any two answers to a text that the contract allows are the same
 pub read_one : (v : Edition) (t : List ℕ) (a b : Boarded) → Reads v t a → Reads v t b → a ≡ b
@@ -63,7 +62,7 @@ read_in v t raw r a e h =
     let p = raw.position in
     said p (subst (λ (z : Form). AnswersBy v t p z) e a) (subst (Boards (raw_tests p) (worked_of p)) (sym h) (boards_by _ _ _ (judged_number p)))
 
-pub read_out : (v : Edition) (t : List ℕ) (raw : Raw) (r : Boarded) → Answers v t raw → raw.form ≡ OutOfForm → r ≡ boarded_by (Refused Text) no_board → Reads v t r
+pub read_out : (v : Edition) (t : List ℕ) (raw : Raw) (r : Boarded) → Answers v t raw → raw.form ≡ OutOfForm → r ≡ boarded_by (Err Text) no_board → Reads v t r
 read_out v t raw r a e h =
     unsaid (subst (λ (z : Form). AnswersBy v t raw.position z) e a).1 (ap (λ (x : Boarded). verdict_number x.verdict) h) (ap (λ (x : Boarded). x.board) h)
 
@@ -90,7 +89,7 @@ state_fits v m c (Some q) h = ltb-true q 64 (left _ _ (left _ _ (left _ _ (left 
 state_fits v m c None h = tt
 
 -- read after print: the text of an accepted board, read in the board's own edition, is that board, all of it
-module _ (b : RetractableBoard) (six : length b.pieces ≡ 6) (two : length b.colors ≡ 2) (bp : Bounded b.pieces) (bc : Bounded b.colors) (h : gate_of b ≡ Accepted) where
+module _ (b : RetractableBoard) (six : length b.pieces ≡ 6) (two : length b.colors ≡ 2) (bp : Bounded b.pieces) (bc : Bounded b.colors) (h : gate_of b ≡ nothing_refused) where
   text_said : Says b.terms.edition (position_on b) (text_on b)
   text_said = record {
     edition = refl;
@@ -99,28 +98,28 @@ module _ (b : RetractableBoard) (six : length b.pieces ≡ 6) (two : length b.co
     text = refl;
   }
 
-  pub board_said : new_of (position_on b) ≡ boarded_by Accepted b
-  board_said = ap (λ (v : Verdict). boarded_by v (worked_of (position_on b))) (gate_judged b h) ∙ ap (boarded_by Accepted) (worked_whole b h)
+  pub board_said : new_of (position_on b) ≡ boarded_by nothing_refused b
+  board_said = ap (λ (v : Verdict). boarded_by v (worked_of (position_on b))) (gate_judged b h) ∙ ap (boarded_by nothing_refused) (worked_whole b h)
 
-  pub read_after_print : (r : Boarded) → Reads b.terms.edition (text_on b) r → r ≡ boarded_by Accepted b
+  pub read_after_print : (r : Boarded) → Reads b.terms.edition (text_on b) r → r ≡ boarded_by nothing_refused b
   read_after_print r a = read_said b.terms.edition (text_on b) r (position_on b) a text_said ∙ board_said
 
 -- men that pass 1 to 6, worked out, pass 7
-pub gate_worked : (f : Position) → judged_of f ≡ Accepted → gate_of (worked_of f) ≡ Accepted
+pub gate_worked : (f : Position) → judged_of f ≡ nothing_refused → gate_of (worked_of f) ≡ nothing_refused
 unfolding gate_of
-gate_worked f h = ap₂ (λ (v : Verdict) (t : Bool). and_then v (unless t Stale Accepted)) h (fresh_worked f)
+gate_worked f h = ap₂ (λ (v : Verdict) (t : Bool). and_then v (unless t Stale nothing_refused)) h (fresh_worked f)
 
 -- a board that is read is accepted, and its text is the one that was read
-pub read_accepted : (v : Edition) (t : List ℕ) (r : Boarded) → Reads v t r → r.verdict ≡ Accepted → (gate_of r.board ≡ Accepted) × (text_on r.board ≡ t)
+pub read_accepted : (v : Edition) (t : List ℕ) (r : Boarded) → Reads v t r → r.verdict ≡ nothing_refused → (gate_of r.board ≡ nothing_refused) × (text_on r.board ≡ t)
 read_accepted v t r (said f s d) h =
     let e = new_is f r d in
-    let j : judged_of f ≡ Accepted = sym (ap (λ (x : Boarded). x.verdict) e) ∙ h in
+    let j : judged_of f ≡ nothing_refused = sym (ap (λ (x : Boarded). x.verdict) e) ∙ h in
     let w : r.board ≡ worked_of f = ap (λ (x : Boarded). x.board) (e ∙ ap (λ (v : Verdict). boarded_by v (worked_of f)) j) in
     (ap gate_of w ∙ gate_worked f j, ap text_on w ∙ s.text)
 read_accepted v t r (unsaid n e k) h = absurd (omega (arith, sym e ∙ ap verdict_number h))
 
 -- print after read gives the bytes: what printing the board answers, and leaves in a slice, is what copying t does
-pub print_after_read : (v : Edition) (t : List ℕ) (r : Boarded) → Reads v t r → r.verdict ≡ Accepted → (o after : List ℕ) (x : Said)
+pub print_after_read : (v : Edition) (t : List ℕ) (r : Boarded) → Reads v t r → r.verdict ≡ nothing_refused → (o after : List ℕ) (x : Said)
     → Writes (board_tests r.board) (text_on r.board) o x after → Writes [] t o x after
 print_after_read v t r a h o after x w =
     let g = read_accepted v t r a h in

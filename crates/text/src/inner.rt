@@ -8,7 +8,7 @@ ghost use Rattle.text.specs.Entries.{Reads, text_on};
 use board::{Boarded, RetractableBoard};
 use laws::Edition;
 use position_text::{Copied, Form};
-use refusal::{Refusal, Verdict};
+use refusal::Refusal;
 
 // The text of any board into a lent slice, whole or not at all.
 pub fn print(b: RetractableBoard, out: &mut [u8]) -> Copied
@@ -27,7 +27,7 @@ pub fn read(t: &[u64; 4096], text: &[u8], edition: Edition) -> Boarded
     let form = raw.form;
     match form {
         Form::OutOfForm => {
-            let v = Verdict::Refused(Refusal::Text);
+            let v = Err(Refusal::Text);
             board::inner::board_by(v, board::no_board())
         }
         Form::InForm => {

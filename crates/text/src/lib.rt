@@ -11,7 +11,7 @@ ghost use Rattle.text.specs.Entries.{Reads, text_on, printed_says};
 use board::{Boarded, RetractableBoard};
 use laws::Edition;
 use position_text::Copied;
-use refusal::{Refusal, Verdict};
+use refusal::Refusal;
 
 pub mod inner; // inner.rt: the printer without the gate, and the reader with a lent table
 
@@ -38,8 +38,8 @@ pub fn print(b: RetractableBoard, out: &mut [u8]) -> Printed
     let t = tables::between_table();
     let v = board::inner::gate(&t, b);
     match v {
-        Verdict::Refused(r) => Printed::Refused(r),
-        Verdict::Accepted => told(inner::print(b, out)),
+        Err(r) => Printed::Refused(r),
+        Ok(()) => told(inner::print(b, out)),
     }
 }
 

@@ -1,6 +1,6 @@
 // The state of an accepted board in the other edition, and the board with it.
 ghost use Rattle.std.specs.Prelude.{◌≡◌, ◌<◌};
-ghost use Rattle.refusal.specs.declared.Verdict.TheVariants.{Accepted};
+ghost use Rattle.refusal.specs.Refusals.{nothing_refused};
 ghost use Rattle.laws.specs.declared.EnPassantFlag.TheVariants.{Some};
 ghost use Rattle.laws.specs.Editions.{other_edition, turned_state};
 ghost use Rattle.laws.specs.Boards.{men_in, Clean};
@@ -56,7 +56,7 @@ fn state_turned(p: Position) -> EnPassantFlag
 }
 
 pub fn turned(b: RetractableBoard) -> RetractableBoard
-    requires { gate_of b ≡ Accepted }
+    requires { gate_of b ≡ nothing_refused }
     ensures { result ≡ turned_on b }
 {
     let p = board::inner::position_of(b);

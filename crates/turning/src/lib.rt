@@ -6,7 +6,6 @@ ghost use Rattle.board.specs.Said.{Boards};
 ghost use Rattle.turning.specs.Turned.{turned_on};
 
 use board::{Boarded, RetractableBoard};
-use refusal::Verdict;
 
 pub mod inner; // inner.rt: the state and the board, turned
 
@@ -17,10 +16,10 @@ pub fn turn(b: RetractableBoard) -> Boarded
     let t = tables::between_table();
     let v = board::inner::gate(&t, b);
     match v {
-        Verdict::Refused(w) => board::inner::board_by(Verdict::Refused(w), board::no_board()),
-        Verdict::Accepted => {
+        Err(w) => board::inner::board_by(Err(w), board::no_board()),
+        Ok(()) => {
             let other = inner::turned(b);
-            board::inner::board_by(Verdict::Accepted, other)
+            board::inner::board_by(Ok(()), other)
         }
     }
 }

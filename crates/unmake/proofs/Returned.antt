@@ -12,9 +12,7 @@ use Rattle.laws.specs.Acceptance.{accepted}
 use Rattle.laws.specs.Unmaking.{unmade}
 use Rattle.laws.specs.Boards.{men_ok, Clean, pos_at}
 use Rattle.refusal.specs.declared.Refusal.TheVariants.{Source, Target, Held, Step}
-use Rattle.refusal.specs.declared.Verdict.{Verdict}
-use Rattle.refusal.specs.declared.Verdict.TheVariants.{Accepted}
-use Rattle.refusal.specs.Refusals.{verdict_number}
+use Rattle.refusal.specs.Refusals.{verdict_number, Verdict, nothing_refused}
 use Rattle.position.specs.declared.Positioned.{Positioned}
 use Rattle.position.specs.Answers.{position_of, answered, refused}
 use Rattle.unmake.specs.Retracted.{source_for, target_for, held_for, step_for, unmade_for, stepped_to, unmade_to}
@@ -58,7 +56,7 @@ module _ (p : Pos) (r : ChessRetraction) where
   tests = refl
 
   -- no refusal is what the Laws ask of a retraction, and then the answer is the un-made position
-  pub accepted_can : (unmade_to p r).verdict ≡ Accepted → can_retract p r ≡ true
+  pub accepted_can : (unmade_to p r).verdict ≡ nothing_refused → can_retract p r ≡ true
   accepted_can h = tests ∙ sym unmade_exactly.given0 ∙ ap (λ (v : Verdict). eqb (verdict_number v) 0) h
 
   pub answer_is : can_retract p r ≡ true → unmade_to p r ≡ answered (unmade_for p r)

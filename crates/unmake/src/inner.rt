@@ -12,7 +12,7 @@ ghost use Rattle.unmake.specs.inner.Parts.{undoable_for, castled_for, rest_for};
 
 use laws::{ChessRetraction, Color, Position, Side, Way};
 use position::Positioned;
-use refusal::{Refusal, Verdict};
+use refusal::Refusal;
 
 pub mod back; // back.rt: how men, rights and state go back
 
@@ -143,7 +143,7 @@ fn stepped(t: &[u64; 4096], p: Position, r: ChessRetraction) -> Positioned
         return position::inner::refuse(Refusal::Step);
     }
     Positioned {
-        verdict: Verdict::Accepted,
+        verdict: Ok(()),
         position: e,
     }
 }

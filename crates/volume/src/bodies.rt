@@ -6,7 +6,6 @@ use super::clock::Clock;
 use super::file::File;
 use super::{clock, file};
 use position_text::{Form, Raw};
-use refusal::Verdict;
 use std::time;
 use volume_contents::Why;
 
@@ -36,8 +35,8 @@ pub(super) fn judge(raw: Raw, place: usize) -> Judged {
         Form::InForm => {
             let v = accept::inner::judge(raw.position);
             match v {
-                Verdict::Refused(r) => Judged::Refused(Why::Board(r, place)),
-                Verdict::Accepted => Judged::Accepted,
+                Err(r) => Judged::Refused(Why::Board(r, place)),
+                Ok(()) => Judged::Accepted,
             }
         }
     }

@@ -8,7 +8,6 @@ use super::file::File;
 use super::sink::{Poured, Sink};
 use super::{bodies, clock, file, sink};
 use laws::Edition;
-use refusal::Verdict;
 use std::io::Write;
 use std::time;
 use volume_contents::{Flaw, Why};
@@ -52,8 +51,8 @@ fn verdict(count: usize, named: Named) -> Answer {
     }
     let v = named.verdict;
     match v {
-        Verdict::Refused(r) => Answer::Refused(Why::Board(r, named.line)),
-        Verdict::Accepted => Answer::Problems(count as u16),
+        Err(r) => Answer::Refused(Why::Board(r, named.line)),
+        Ok(()) => Answer::Problems(count as u16),
     }
 }
 

@@ -11,7 +11,6 @@ use Rattle.squares.specs.Tests.{◌and◌}
 use Rattle.squares.proofs.Testing.{right}
 use Rattle.laws.specs.declared.Position.{Position}
 use Rattle.laws.specs.Boards.{Clean}
-use Rattle.refusal.specs.declared.Verdict.TheVariants.{Accepted}
 use Rattle.accept.specs.Verdicts.{judged_of}
 use Rattle.position_text.specs.Form.{StateFits}
 use Rattle.volume_contents.specs.declared.Flaw.TheVariants.{Number, Order}
@@ -24,6 +23,7 @@ use Rattle.volume_read.specs.Reading.{Boards, Whole}
 use Rattle.volume_read.proofs.Bytes.{Bytes, problems_length}
 use Rattle.volume_read.proofs.Made.{AllRight, boards_of, made_whole}
 use Rattle.volume_add.specs.Adding.{number_tested, with}
+use Rattle.refusal.specs.Refusals.{nothing_refused}
 
 -- a number that passes
 pub number_passes : (last k : ℕ) → number_tested last k ≡ Sound → (last < k) × (k ≤ 65535)
@@ -44,7 +44,7 @@ module _ (v : List ℕ) (n : ℕ) (ps : List Position) (bytes : Bytes v) (w : Wh
   reaches zero h = omega arith
   reaches (suc i) h = let a = reaches i (omega arith) in omega (arith, (row_of_lem false v n w.table i (omega arith)).rising)
 
-  module _ (x : Problem) (above : number_before v n < x.number) (most : x.number ≤ 65535) (ok : judged_of x.board ≡ Accepted) (clean : Clean x.board.pieces x.board.colors) (square : StateFits x.board.passant) where
+  module _ (x : Problem) (above : number_before v n < x.number) (most : x.number ≤ 65535) (ok : judged_of x.board ≡ nothing_refused) (clean : Clean x.board.pieces x.board.colors) (square : StateFits x.board.passant) where
     all_right : (i : ℕ) (qs : List Position) → i + length qs ≡ n → Boards v n i qs → AllRight false i (number_before v i) (problems_from v i qs ++ (x ∷ []))
     unfolding problems_from
     all_right i [] e b =
@@ -79,7 +79,7 @@ module _ (v : List ℕ) (n : ℕ) (ps : List Position) (bytes : Bytes v) (w : Wh
         (subst (λ (k : ℕ). Whole false (with v ps x.number x.board) k (boards_of xs)) l m)
 
 -- a board of clean men, whose square is of the board if one is named, is found in the volume that it was added to
-pub held : (v : List ℕ) (n : ℕ) (ps : List Position) (k : ℕ) (p : Position) → Bytes v → Whole false v n ps → number_tested (number_before v n) k ≡ Sound → judged_of p ≡ Accepted
+pub held : (v : List ℕ) (n : ℕ) (ps : List Position) (k : ℕ) (p : Position) → Bytes v → Whole false v n ps → number_tested (number_before v n) k ≡ Sound → judged_of p ≡ nothing_refused
     → Clean p.pieces p.colors → StateFits p.passant → Whole false (with v ps k p) (n + 1) (ps ++ (p ∷ []))
 held v n ps k p b w t j c s =
     let a = number_passes (number_before v n) k t in

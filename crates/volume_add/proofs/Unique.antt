@@ -7,8 +7,6 @@ use lib.Dec.{ltb}
 use lib.ListN.{length, drop}
 use borrow.Author.Tests.{lt-ltb, le-ltb}
 use Rattle.laws.specs.declared.Position.{Position}
-use Rattle.refusal.specs.declared.Verdict.{Verdict}
-use Rattle.refusal.specs.declared.Verdict.TheVariants.{Accepted, Refused as refused}
 use Rattle.accept.specs.Verdicts.{judged_of}
 use Rattle.volume_contents.specs.declared.Tested.{Tested}
 use Rattle.volume_contents.specs.declared.Tested.TheVariants.{Sound, Flawed}
@@ -21,6 +19,8 @@ use Rattle.volume_make.proofs.Unique.{Answer, Is, is_one}
 use Rattle.volume_read.specs.Reading.{Judged, Whole}
 use Rattle.volume_read.proofs.Unique.{judged_one, judged_whole, whole_one}
 use Rattle.volume_add.specs.Adding.{number_tested, with, Adds, spoilt, misnumbered, unjudged, narrow, added}
+use Rattle.refusal.specs.Refusals.{Verdict}
+use Rattle.std.specs.Prelude.{Ok, Err}
 
 -- a volume is refused, or has boards
 data Parts (v : List ℕ) : Type 0 where
@@ -30,9 +30,9 @@ data Parts (v : List ℕ) : Type 0 where
 -- how is the number, what is the verdict on the board, is there too little room
 abbrev answer_by : ℕ → List ℕ → List ℕ → Tested → Verdict → Bool → Answer
 answer_by n o l (Flawed w) j b = (Refused (Contents w (n + 1)), o)
-answer_by n o l Sound (refused w) b = (Refused (Board w (n + 1)), o)
-answer_by n o l Sound Accepted true = (Refused (Room (length l)), o)
-answer_by n o l Sound Accepted false = (Count (length l), l ++ drop (length l) o)
+answer_by n o l Sound (Err w) b = (Refused (Board w (n + 1)), o)
+answer_by n o l Sound (Ok _) true = (Refused (Room (length l)), o)
+answer_by n o l Sound (Ok _) false = (Count (length l), l ++ drop (length l) o)
 
 module _ (v : List ℕ) (k : ℕ) (p : Position) (o : List ℕ) where
   added_answer : ℕ → List Position → Answer

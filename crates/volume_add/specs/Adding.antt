@@ -1,9 +1,8 @@
 -- One problem more: "Problem numbers are 1 to 65,535 and rise strictly".
-use Rattle.std.specs.Prelude.{◌≡◌, false, List, [], ◌∷◌, ◌++◌, ℕ, ◌+◌, ◌≤◌, ◌<◌, leb, ltb, length, drop}
+use Rattle.std.specs.Prelude.{◌≡◌, false, List, [], ◌∷◌, ◌++◌, ℕ, ◌+◌, ◌≤◌, ◌<◌, leb, ltb, length, drop, Err}
 use Rattle.squares.specs.Tests.{◌and◌}
 use Rattle.laws.specs.declared.Position.{Position}
 use Rattle.refusal.specs.declared.Refusal.{Refusal}
-use Rattle.refusal.specs.declared.Verdict.TheVariants.{Accepted, Refused as refused}
 use Rattle.accept.specs.Verdicts.{judged_of}
 use Rattle.volume_contents.specs.declared.Flaw.{Flaw}
 use Rattle.volume_contents.specs.declared.Flaw.TheVariants.{Number, Order}
@@ -17,6 +16,7 @@ use Rattle.volume_contents.specs.Contents.{unless, number_before}
 use Rattle.volume_make.specs.Volumes.{volume_of}
 use Rattle.volume_read.specs.Problems.{problems_of}
 use Rattle.volume_read.specs.Reading.{Judged, Whole}
+use Rattle.refusal.specs.Refusals.{nothing_refused}
 
 -- a number behind a row with the number `last`
 unfoldable pub number_tested : ℕ → ℕ → Tested
@@ -34,11 +34,11 @@ pub data Adds (v : List ℕ) (k : ℕ) (p : Position) (o : List ℕ) (r : Writte
   misnumbered : (n : ℕ) (ps : List Position) (w : Flaw) → Whole false v n ps → number_tested (number_before v n) k ≡ Flawed w
       → r ≡ Refused (Contents w (n + 1)) → x ≡ o → Adds v k p o r x
   -- 1 to 6 for the board
-  unjudged : (n : ℕ) (ps : List Position) (w : Refusal) → Whole false v n ps → number_tested (number_before v n) k ≡ Sound → judged_of p ≡ refused w
+  unjudged : (n : ℕ) (ps : List Position) (w : Refusal) → Whole false v n ps → number_tested (number_before v n) k ≡ Sound → judged_of p ≡ Err w
       → r ≡ Refused (Board w (n + 1)) → x ≡ o → Adds v k p o r x
   -- 13, with the number of bytes needed
-  narrow : (n : ℕ) (ps : List Position) → Whole false v n ps → number_tested (number_before v n) k ≡ Sound → judged_of p ≡ Accepted
+  narrow : (n : ℕ) (ps : List Position) → Whole false v n ps → number_tested (number_before v n) k ≡ Sound → judged_of p ≡ nothing_refused
       → length o < length (with v ps k p) → r ≡ Refused (Room (length (with v ps k p))) → x ≡ o → Adds v k p o r x
   -- the longer volume, and what stood beyond
-  added : (n : ℕ) (ps : List Position) → Whole false v n ps → number_tested (number_before v n) k ≡ Sound → judged_of p ≡ Accepted
+  added : (n : ℕ) (ps : List Position) → Whole false v n ps → number_tested (number_before v n) k ≡ Sound → judged_of p ≡ nothing_refused
       → length (with v ps k p) ≤ length o → r ≡ Count (length (with v ps k p)) → x ≡ with v ps k p ++ drop (length (with v ps k p)) o → Adds v k p o r x

@@ -7,7 +7,6 @@ ghost use Rattle.volume_add.specs.Adding.{number_tested};
 ghost use Rattle.volume_add.specs.inner.Longer.{carried, longer, AddsTo};
 
 use laws::Position;
-use refusal::Verdict;
 use volume_contents::{Flaw, Tested, Why, Written};
 use volume_make::inner::put;
 
@@ -83,8 +82,8 @@ pub fn add_to(v: &[u8], n: usize, number: usize, board: Position, out: &mut [u8]
         Tested::Sound => {
             let j = accept::inner::judge(board);
             match j {
-                Verdict::Refused(w) => Written::Refused(Why::Board(w, n + 1)),
-                Verdict::Accepted => {
+                Err(w) => Written::Refused(Why::Board(w, n + 1)),
+                Ok(()) => {
                     let need = 48 + 42 * n;
                     if out.len() < need {
                         return Written::Refused(Why::Room(need));

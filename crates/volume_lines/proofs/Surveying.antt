@@ -11,7 +11,6 @@ use lib.Seq.{drop-cons, drop-drop, get_or-take, get_or-drop, length-take-le}
 use Rattle.squares.proofs.Testing.{order}
 use Rattle.laws.specs.declared.Position.{Position}
 use Rattle.laws.specs.declared.Edition.TheVariants.{A}
-use Rattle.refusal.specs.declared.Verdict.{Verdict}
 use Rattle.accept.specs.Verdicts.{judged_of}
 use Rattle.chunks.specs.Newlines.{stop_from}
 use Rattle.chunks.proofs.Cuts.{stop_within, stop_newline, stop_first}
@@ -23,6 +22,7 @@ use Rattle.volume_lines.specs.declared.Named.{Named}
 use Rattle.volume_lines.specs.Register.{Told, AllTold, lines_of, Starts, note_of, noted_of}
 use Rattle.volume_lines.specs.inner.Surveys.{is_in_form, Surveyed}
 use Rattle.volume_lines.proofs.Breaks.{Free, free_of, free_no, free_split, printed_free, line_one}
+use Rattle.refusal.specs.Refusals.{Verdict}
 
 -- the bytes from `at` up to the newline at `stop`, and what follows
 module _ (t : List ℕ) (at stop : ℕ) (inside : at ≤ length t) (found : stop ≡ stop_from t at (length t - at)) where

@@ -1,12 +1,11 @@
 -- A register of old lines: each a text and its newline, "numbered from 1", in edition A.
-use Rattle.std.specs.Prelude.{◌≡◌, List, [], ◌∷◌, ◌++◌, ℕ, ◌+◌, ◌<◌, length}
+use Rattle.std.specs.Prelude.{◌≡◌, List, [], ◌∷◌, ◌++◌, ℕ, ◌+◌, ◌<◌, length, Ok, Err}
 use Rattle.laws.specs.declared.Position.{Position}
 use Rattle.laws.specs.declared.Edition.TheVariants.{A}
-use Rattle.refusal.specs.declared.Verdict.{Verdict}
-use Rattle.refusal.specs.declared.Verdict.TheVariants.{Accepted, Refused}
 use Rattle.accept.specs.Verdicts.{judged_of}
 use Rattle.position_text.specs.Form.{printed, Says}
 use Rattle.volume_lines.specs.declared.Named.{Named}
+use Rattle.refusal.specs.Refusals.{Verdict, nothing_refused}
 
 -- what a text can say: of edition A, with clean men, and a square of the board if one is named
 abbrev pub Told : Position → Type 0
@@ -43,9 +42,9 @@ pub record Stops (t : List ℕ) (k : ℕ) : Type 0 where
 
 -- the verdict on one board more, that of the line k: the first that is refused stays
 abbrev pub note_by : Verdict → ℕ → ℕ → Verdict → Named
-note_by (Refused w) l k v = record { verdict = Refused w; line = l }
-note_by Accepted l k (Refused w) = record { verdict = Refused w; line = k }
-note_by Accepted l k Accepted = record { verdict = Accepted; line = 0 }
+note_by (Err w) l k v = record { verdict = Err w; line = l }
+note_by (Ok _) l k (Err w) = record { verdict = Err w; line = k }
+note_by (Ok _) l k (Ok _) = record { verdict = nothing_refused; line = 0 }
 
 abbrev pub note_of : Named → ℕ → Verdict → Named
 note_of n k v = note_by n.verdict n.line k v
@@ -56,7 +55,7 @@ noted_of n k [] = n
 noted_of n k (p ∷ ps) = noted_of (note_of n (k + 1) (judged_of p)) (k + 1) ps
 
 abbrev pub unrefused : Named
-unrefused = record { verdict = Accepted; line = 0 }
+unrefused = record { verdict = nothing_refused; line = 0 }
 
 abbrev pub first_refused : List Position → Named
 first_refused ps = noted_of unrefused 0 ps

@@ -14,17 +14,17 @@ fn note(n: Named, k: usize, v: Verdict) -> Named
 {
     let had = n.verdict;
     match had {
-        Verdict::Refused(w) => Named {
-            verdict: Verdict::Refused(w),
+        Err(w) => Named {
+            verdict: Err(w),
             line: n.line,
         },
-        Verdict::Accepted => match v {
-            Verdict::Refused(w) => Named {
-                verdict: Verdict::Refused(w),
+        Ok(()) => match v {
+            Err(w) => Named {
+                verdict: Err(w),
                 line: k,
             },
-            Verdict::Accepted => Named {
-                verdict: Verdict::Accepted,
+            Ok(()) => Named {
+                verdict: Ok(()),
                 line: 0,
             },
         },
@@ -36,7 +36,7 @@ pub fn unrefused() -> Named
     ensures { result ≡ unrefused }
 {
     Named {
-        verdict: Verdict::Accepted,
+        verdict: Ok(()),
         line: 0,
     }
 }

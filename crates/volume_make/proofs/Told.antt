@@ -10,7 +10,6 @@ use lib.Seq.{drop-length, get_or-drop}
 use borrow.Author.Tests.{ltb-true, ltb-false}
 use Rattle.laws.specs.declared.Position.{Position}
 use Rattle.refusal.specs.declared.Refusal.{Refusal}
-use Rattle.refusal.specs.declared.Verdict.TheVariants.{Accepted, Refused as refused}
 use Rattle.position_text.specs.Form.{printed}
 use Rattle.volume_contents.specs.declared.Flaw.TheVariants.{Many}
 use Rattle.volume_contents.specs.declared.Why.TheVariants.{Contents, Board, Room}
@@ -24,6 +23,8 @@ use Rattle.volume_make.specs.Volumes.{bound}
 use Rattle.volume_make.specs.Making.{Makes, many, refuses, room, written}
 use Rattle.volume_make.specs.inner.Filling.{Counted, VolumeIn}
 use Rattle.volume_make.proofs.Sizes.{bound_length}
+use Rattle.refusal.specs.Refusals.{nothing_refused}
+use Rattle.std.specs.Prelude.{Err}
 
 lines_few : (ps : List Position) → length ps ≤ length (lines_of ps)
 unfolding lines_of
@@ -82,12 +83,12 @@ module _ (t : List ℕ) (s : Survey) (w : Surveyed t 0 unrefused s) where
     pub told_many : 65535 < s.count → Makes t o (Refused (Contents Many 65536)) o
     told_many h = many w.boards (all_lines e) (omega (arith, count_is)) refl refl
 
-    pub told_refuses : (v : Refusal) → s.count ≤ 65535 → s.named.verdict ≡ refused v → Makes t o (Refused (Board v s.named.line)) o
+    pub told_refuses : (v : Refusal) → s.count ≤ 65535 → s.named.verdict ≡ Err v → Makes t o (Refused (Board v s.named.line)) o
     told_refuses v h q =
         refuses w.boards (all_lines e) (omega (arith, count_is)) v (ap (λ (x : Named). x.verdict) (sym w.named_is) ∙ q)
         (ap (λ (x : Named). Refused (Board v x.line)) w.named_is) refl
 
-    pub told_room : s.count ≤ 65535 → s.named.verdict ≡ Accepted → length o < 6 + 42 * s.count → Makes t o (Refused (Room (6 + 42 * s.count))) o
+    pub told_room : s.count ≤ 65535 → s.named.verdict ≡ nothing_refused → length o < 6 + 42 * s.count → Makes t o (Refused (Room (6 + 42 * s.count))) o
     told_room h q k =
         room w.boards (all_lines e) (omega (arith, count_is)) (ap (λ (x : Named). x.verdict) (sym w.named_is) ∙ q) (omega (arith, size))
         (ap (λ (i : ℕ). Refused (Room i)) (sym size)) refl
@@ -95,7 +96,7 @@ module _ (t : List ℕ) (s : Survey) (w : Surveyed t 0 unrefused s) where
     pub counted : 6 + 42 * s.count ≤ length o → Counted t o s.count
     counted h = record { boards = w.boards; lines = all_lines e; count = count_is; room = h }
 
-    pub told_written : (x : List ℕ) → s.count ≤ 65535 → s.named.verdict ≡ Accepted → 6 + 42 * s.count ≤ length o → VolumeIn t o x
+    pub told_written : (x : List ℕ) → s.count ≤ 65535 → s.named.verdict ≡ nothing_refused → 6 + 42 * s.count ≤ length o → VolumeIn t o x
         → Makes t o (Count (6 + 42 * s.count)) x
     told_written x h q k v =
         written w.boards (all_lines e) (omega (arith, count_is)) (ap (λ (y : Named). y.verdict) (sym w.named_is) ∙ q) (omega (arith, size))

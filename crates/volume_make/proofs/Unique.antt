@@ -7,8 +7,6 @@ use lib.Dec.{ltb}
 use lib.ListN.{length, drop}
 use borrow.Author.Tests.{lt-ltb, le-ltb}
 use Rattle.laws.specs.declared.Position.{Position}
-use Rattle.refusal.specs.declared.Verdict.{Verdict}
-use Rattle.refusal.specs.declared.Verdict.TheVariants.{Accepted, Refused as refused}
 use Rattle.volume_contents.specs.declared.Flaw.TheVariants.{Many}
 use Rattle.volume_contents.specs.declared.Why.TheVariants.{Line, Contents, Board, Room}
 use Rattle.volume_contents.specs.declared.Written.{Written}
@@ -18,6 +16,8 @@ use Rattle.volume_lines.proofs.Breaks.{lines_one, stops_lines}
 use Rattle.volume_lines.proofs.Unique.{stops_one}
 use Rattle.volume_make.specs.Volumes.{bound}
 use Rattle.volume_make.specs.Making.{Makes, unlined, many, refuses, room, written}
+use Rattle.refusal.specs.Refusals.{Verdict}
+use Rattle.std.specs.Prelude.{Ok, Err}
 
 -- an answer, and what the slice then holds
 abbrev pub Answer : Type 0
@@ -37,9 +37,9 @@ data Parts (t : List ℕ) : Type 0 where
 -- are there too many lines, what is the verdict on them, is there too little room
 abbrev answer_by : List Position → List ℕ → Bool → Verdict → Bool → Answer
 answer_by ps o true v b = (Refused (Contents Many 65536), o)
-answer_by ps o false (refused w) b = (Refused (Board w (first_refused ps).line), o)
-answer_by ps o false Accepted true = (Refused (Room (length (bound ps))), o)
-answer_by ps o false Accepted false = (Count (length (bound ps)), bound ps ++ drop (length (bound ps)) o)
+answer_by ps o false (Err w) b = (Refused (Board w (first_refused ps).line), o)
+answer_by ps o false (Ok _) true = (Refused (Room (length (bound ps))), o)
+answer_by ps o false (Ok _) false = (Count (length (bound ps)), bound ps ++ drop (length (bound ps)) o)
 
 lines_answer : List Position → List ℕ → Answer
 lines_answer ps o = answer_by ps o (ltb 65535 (length ps)) (first_refused ps).verdict (ltb (length o) (length (bound ps)))

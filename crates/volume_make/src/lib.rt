@@ -3,7 +3,6 @@
 
 ghost use Rattle.volume_make.specs.Making.{Makes};
 
-use refusal::Verdict;
 use volume_contents::{Flaw, Why, Written};
 
 pub mod inner; // inner.rt: head, rows and bodies written into a lent slice
@@ -25,8 +24,8 @@ pub fn to_volume(lines: &[u8], out: &mut [u8]) -> Written
     let named = s.named;
     let v = named.verdict;
     match v {
-        Verdict::Refused(w) => Written::Refused(Why::Board(w, named.line)),
-        Verdict::Accepted => {
+        Err(w) => Written::Refused(Why::Board(w, named.line)),
+        Ok(()) => {
             let need = 6 + 42 * n;
             if out.len() < need {
                 return Written::Refused(Why::Room(need));

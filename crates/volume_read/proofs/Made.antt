@@ -13,7 +13,6 @@ use Rattle.squares.proofs.Testing.{both}
 use Rattle.laws.specs.declared.Edition.{Edition}
 use Rattle.laws.specs.declared.Edition.TheVariants.{A, B}
 use Rattle.laws.specs.declared.Position.{Position}
-use Rattle.refusal.specs.declared.Verdict.TheVariants.{Accepted}
 use Rattle.accept.specs.Verdicts.{judged_of}
 use Rattle.volume_body.specs.Layout.{bodied, Embodies}
 use Rattle.volume_contents.specs.declared.Entry.{Entry}
@@ -27,13 +26,14 @@ use Rattle.volume_make.specs.Volumes.{Problem, rows_of, bodies_of, volume_of}
 use Rattle.volume_make.proofs.Sizes.{bodied_length, rows_length, volume_length}
 use Rattle.volume_read.specs.Problems.{problems_from}
 use Rattle.volume_read.specs.Reading.{body_at, Boards, Whole}
+use Rattle.refusal.specs.Refusals.{nothing_refused}
 
 -- the problem in the row i, behind a row with the number `last`; `back` is whether it is one of old lines
 pub record Right (back : Bool) (i last : ℕ) (x : Problem) : Type 0 where
   pub above : last < x.number
   pub few : x.number < 65536
   pub body : Embodies x.board.terms.edition x.board (bodied x.board)
-  pub passes : judged_of x.board ≡ Accepted
+  pub passes : judged_of x.board ≡ nothing_refused
   pub plain : back ≡ true → (x.number ≡ i + 1) × (x.board.terms.edition ≡ A)
 
 abbrev pub AllRight : Bool → ℕ → ℕ → List Problem → Type 0

@@ -12,8 +12,6 @@ use Rattle.laws.specs.declared.Position.{Position}
 use Rattle.laws.specs.declared.Terms.{Terms}
 use Rattle.laws.specs.Positions.{terms_of}
 use Rattle.refusal.specs.declared.Refusal.{Refusal}
-use Rattle.refusal.specs.declared.Verdict.{Verdict}
-use Rattle.refusal.specs.declared.Verdict.TheVariants.{Accepted, Refused as refused}
 use Rattle.accept.specs.Verdicts.{judged_of}
 use Rattle.volume_contents.specs.declared.Written.{Written}
 use Rattle.volume_contents.specs.declared.Written.TheVariants.{Count}
@@ -31,21 +29,23 @@ use Rattle.volume_read.proofs.Boards.{edition_one}
 use Rattle.volume_read.proofs.Bytes.{Bytes, volume_of_lem}
 use Rattle.volume_read.proofs.Made.{AllRight, boards_of, made_whole}
 use Rattle.volume_read.proofs.Unique.{unmakes_one}
+use Rattle.refusal.specs.Refusals.{Verdict, nothing_refused}
+use Rattle.std.specs.Prelude.{Ok, Err}
 
-never : (r : Refusal) → refused r ≡ Accepted → ⊥
+never : (r : Refusal) → Err r ≡ nothing_refused → ⊥
 never r e = let z : ◌≡◌ {A = ℕ} 0 1 = cc in omega arith
 
 abbrev AllPass : List Position → Type 0
 AllPass [] = Unit {0}
-AllPass (p ∷ ps) = (judged_of p ≡ Accepted) × AllPass ps
+AllPass (p ∷ ps) = (judged_of p ≡ nothing_refused) × AllPass ps
 
 -- no board is refused exactly when all pass
-both_pass : (v w : Verdict) (l k : ℕ) → (note_by v l k w).verdict ≡ Accepted → (v ≡ Accepted) × (w ≡ Accepted)
-both_pass Accepted Accepted l k e = (refl, refl)
-both_pass Accepted (refused r) l k e = absurd (never r e)
-both_pass (refused r) w l k e = absurd (never r e)
+both_pass : (v w : Verdict) (l k : ℕ) → (note_by v l k w).verdict ≡ nothing_refused → (v ≡ nothing_refused) × (w ≡ nothing_refused)
+both_pass (Ok _) (Ok _) l k e = (refl, refl)
+both_pass (Ok _) (Err r) l k e = absurd (never r e)
+both_pass (Err r) w l k e = absurd (never r e)
 
-noted_pass : (ps : List Position) (n : Named) (k : ℕ) → (noted_of n k ps).verdict ≡ Accepted → (n.verdict ≡ Accepted) × AllPass ps
+noted_pass : (ps : List Position) (n : Named) (k : ℕ) → (noted_of n k ps).verdict ≡ nothing_refused → (n.verdict ≡ nothing_refused) × AllPass ps
 unfolding noted_of
 noted_pass [] n k e = (e, tt)
 noted_pass (p ∷ ps) n k e =
@@ -53,7 +53,7 @@ noted_pass (p ∷ ps) n k e =
     let b = both_pass n.verdict (judged_of p) n.line (k + 1) i.0 in
     (b.0, (b.1, i.1))
 
-pass_noted : (ps : List Position) (n : Named) (k : ℕ) → n.verdict ≡ Accepted → AllPass ps → (noted_of n k ps).verdict ≡ Accepted
+pass_noted : (ps : List Position) (n : Named) (k : ℕ) → n.verdict ≡ nothing_refused → AllPass ps → (noted_of n k ps).verdict ≡ nothing_refused
 unfolding noted_of
 pass_noted [] n k e a = e
 pass_noted (p ∷ ps) n k e a =
@@ -85,7 +85,7 @@ boards_back k [] = refl
 boards_back k (p ∷ ps) = ap (λ (z : List Position). p ∷ z) (boards_back (k + 1) ps)
 
 -- what old lines become is a volume that goes back
-pub bound_whole : (ps : List Position) → length ps < 65536 → AllTold ps → (first_refused ps).verdict ≡ Accepted → Whole true (bound ps) (length ps) ps
+pub bound_whole : (ps : List Position) → length ps < 65536 → AllTold ps → (first_refused ps).verdict ≡ nothing_refused → Whole true (bound ps) (length ps) ps
 bound_whole ps h t e =
     let n = numbered_length 1 ps in
     let w = made_whole true (numbered_from 1 ps) (omega (arith, n)) (right_from 0 ps (omega arith) t (noted_pass ps unrefused 0 e).1) in
@@ -114,7 +114,7 @@ module _ (v : List ℕ) (n : ℕ) (t : Table true v n) where
 pub whole_bound : (v : List ℕ) (n : ℕ) (ps : List Position) → Bytes v → Whole true v n ps → bound ps ≡ v
 whole_bound v n ps b w = ap volume_of (sym (numbered_so v n w.table 0 ps (omega (arith, w.count)))) ∙ volume_of_lem true v n ps b w
 
-pub whole_told : (v : List ℕ) (n : ℕ) (ps : List Position) → Whole true v n ps → AllTold ps × ((first_refused ps).verdict ≡ Accepted)
+pub whole_told : (v : List ℕ) (n : ℕ) (ps : List Position) → Whole true v n ps → AllTold ps × ((first_refused ps).verdict ≡ nothing_refused)
 whole_told v n ps w =
     let a = told_from v n w.table 0 ps (omega (arith, w.count)) w.boards in
     (a.0, pass_noted ps unrefused 0 refl a.1)

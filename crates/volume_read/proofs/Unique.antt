@@ -11,8 +11,6 @@ use borrow.Author.Tests.{lt-ltb, le-ltb}
 use Rattle.squares.proofs.Testing.{order}
 use Rattle.laws.specs.declared.Position.{Position}
 use Rattle.refusal.specs.declared.Refusal.{Refusal}
-use Rattle.refusal.specs.declared.Verdict.{Verdict}
-use Rattle.refusal.specs.declared.Verdict.TheVariants.{Refused as refused}
 use Rattle.refusal.proofs.Saying.{never}
 use Rattle.accept.specs.Verdicts.{judged_of}
 use Rattle.position.specs.Answers.{no_position}
@@ -34,8 +32,10 @@ use Rattle.volume_read.specs.declared.Sought.{Sought}
 use Rattle.volume_read.specs.declared.Sought.TheVariants.{Found as There, Absent, Refused}
 use Rattle.volume_read.specs.Reading.{Passes, Fails, bodiless, unjudged, ReadsBy, Boards, Judged, by_table, by_row, Whole, Checks, FindsBy, Finds, spoilt, sound, Unmakes, refuses, narrow, lined}
 use Rattle.volume_read.proofs.Boards.{has_one, boards_one}
+use Rattle.refusal.specs.Refusals.{Verdict}
+use Rattle.std.specs.Prelude.{Err}
 
-refusal_one : (j : Verdict) (w u : Refusal) → j ≡ refused w → j ≡ refused u → w ≡ u
+refusal_one : (j : Verdict) (w u : Refusal) → j ≡ Err w → j ≡ Err u → w ≡ u
 refusal_one j w u a b = cc
 
 -- a row passes, or fails for one reason

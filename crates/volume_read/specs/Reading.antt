@@ -1,8 +1,7 @@
 -- What is read of a volume: its table, then its boards row by row; one problem; and old lines.
-use Rattle.std.specs.Prelude.{◌≡◌, Bool, true, false, List, [], ◌∷◌, ◌++◌, ℕ, suc, ◌+◌, ◌≤◌, ◌<◌, length, take, drop}
+use Rattle.std.specs.Prelude.{◌≡◌, Bool, true, false, List, [], ◌∷◌, ◌++◌, ℕ, suc, ◌+◌, ◌≤◌, ◌<◌, length, take, drop, Err}
 use Rattle.laws.specs.declared.Position.{Position}
 use Rattle.refusal.specs.declared.Refusal.{Refusal}
-use Rattle.refusal.specs.declared.Verdict.TheVariants.{Accepted, Refused as refused}
 use Rattle.accept.specs.Verdicts.{judged_of}
 use Rattle.position.specs.Answers.{no_position}
 use Rattle.volume_body.specs.Layout.{Embodies}
@@ -22,6 +21,7 @@ use Rattle.volume_read.specs.declared.Checked.TheVariants.{Problems, Refused as 
 use Rattle.volume_read.specs.declared.Found.{Found}
 use Rattle.volume_read.specs.declared.Sought.{Sought}
 use Rattle.volume_read.specs.declared.Sought.TheVariants.{Found as There, Absent, Refused}
+use Rattle.refusal.specs.Refusals.{nothing_refused}
 
 -- the bytes of the body i of n
 abbrev pub body_at : List ℕ → ℕ → ℕ → List ℕ
@@ -33,12 +33,12 @@ pub record HasBoard (v : List ℕ) (n i : ℕ) (p : Position) : Type 0 where
   pub body : Embodies p.terms.edition p (body_at v n i)
 
 abbrev pub Passes : List ℕ → ℕ → ℕ → Position → Type 0
-Passes v n i p = HasBoard v n i p × (judged_of p ≡ Accepted)
+Passes v n i p = HasBoard v n i p × (judged_of p ≡ nothing_refused)
 
 -- "then 18 BODY (a body with no such board), then 1 to 6 for that board", each with its row, counted from 1
 pub data Fails (v : List ℕ) (n i : ℕ) : Why → Type 0 where
   bodiless : ((p : Position) → HasBoard v n i p → ⊥) → Fails v n i (Body (i + 1))
-  unjudged : (p : Position) (w : Refusal) → HasBoard v n i p → judged_of p ≡ refused w → Fails v n i (board w (i + 1))
+  unjudged : (p : Position) (w : Refusal) → HasBoard v n i p → judged_of p ≡ Err w → Fails v n i (board w (i + 1))
 
 -- a row that is refused: "A refusal .. returns no board"
 abbrev pub unread : Why → Read

@@ -8,7 +8,6 @@ ghost use Rattle.volume_read.specs.inner.Scanning.{TableOf, AnswersAt, Sized, Sc
 use super::{Found, Judged, Read, Scan, Sought, Table};
 use men_field::Line;
 use position_text::{Form, Raw};
-use refusal::Verdict;
 use volume_contents::{Tested, Why};
 
 // 17: the number of rows, or the first test that fails. `back` asks for a table of old lines.
@@ -66,8 +65,8 @@ fn board(v: &[u8], n: usize, i: usize) -> Read
             let p = raw.position;
             let verdict = accept::inner::judge(p);
             match verdict {
-                Verdict::Refused(w) => refused(Why::Board(w, i + 1)),
-                Verdict::Accepted => Read {
+                Err(w) => refused(Why::Board(w, i + 1)),
+                Ok(()) => Read {
                     judged: Judged::Accepted,
                     board: p,
                 },

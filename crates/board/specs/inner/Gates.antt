@@ -7,9 +7,7 @@ use Rattle.laws.specs.declared.ChessRetraction.{ChessRetraction}
 use Rattle.laws.specs.Acceptance.{kings_ok, state_ok}
 use Rattle.laws.specs.Boards.{men_in, Clean}
 use Rattle.refusal.specs.declared.Refusal.TheVariants.{Source, Passant, Step}
-use Rattle.refusal.specs.declared.Verdict.{Verdict}
-use Rattle.refusal.specs.declared.Verdict.TheVariants.{Accepted}
-use Rattle.refusal.specs.Refusals.{unless, and_then}
+use Rattle.refusal.specs.Refusals.{unless, and_then, Verdict, nothing_refused}
 use Rattle.accept.specs.Verdicts.{five_of, judged_of}
 use Rattle.position.specs.declared.Positioned.{Positioned}
 use Rattle.moves.specs.Stepping.{possible_for}
@@ -34,14 +32,14 @@ pub record Sound (p : Position) : Type 0 where
 
 -- what a verdict accepts is sound
 abbrev pub Kept : Verdict → Position → Type 0
-Kept v p = v ≡ Accepted → Sound p
+Kept v p = v ≡ nothing_refused → Sound p
 
 -- "raw men come in through 1 to 6"
 abbrev pub new_of : Position → Boarded
 new_of p = boarded_by (judged_of p) (worked_of p)
 
 abbrev pub ask_gate : RetractableBoard → ℕ → Verdict
-ask_gate b sq = and_then (gate_of b) (unless (ltb sq 64) Source Accepted)
+ask_gate b sq = and_then (gate_of b) (unless (ltb sq 64) Source nothing_refused)
 
 -- the same as board.rs's `piece_on` (195 to 220) reads it from the sets, by which the code has it
 abbrev pub kind_read : RetractableBoard → ℕ → PieceOn
@@ -57,7 +55,7 @@ told_of (Set s) = told_by (not (eqb s 0))
 told_of (notNamed r) = notTold r
 
 abbrev pub state_gate : RetractableBoard → EnPassantFlag → Verdict
-state_gate b st = and_then (gate_of b) (unless (state_ok b.terms.edition (men_on b) b.turn st) Passant Accepted)
+state_gate b st = and_then (gate_of b) (unless (state_ok b.terms.edition (men_on b) b.turn st) Passant nothing_refused)
 
 -- the board of an answer, or its refusal: "Checkers and pins of the result equal those worked afresh"
 unfoldable pub boarded_of : Positioned → Boarded
@@ -70,7 +68,7 @@ unfoldable pub replay_gate : RetractableBoard → Verdict
 replay_gate b = stale_after (five_of (position_on b)) b
 
 abbrev pub replayed_board : RetractableBoard → ChessRetraction → ℕ → Boarded
-replayed_board b r k = boarded_by (and_then (replay_gate b) (unless (possible_for (pos_on b) r k) Step Accepted)) (replayed_on b r k)
+replayed_board b r k = boarded_by (and_then (replay_gate b) (unless (possible_for (pos_on b) r k) Step nothing_refused)) (replayed_on b r k)
 
 -- raw men of a board that replay takes, through 1 to 5
 abbrev pub earlier_of : Position → Boarded

@@ -1,7 +1,7 @@
 // Un-make and replay of a board, over a lent table of squares between.
 ghost use Rattle.std.specs.Prelude.{◌≡◌};
 ghost use Rattle.geometry.specs.Lines.{IsBetween};
-ghost use Rattle.refusal.specs.declared.Verdict.TheVariants.{Accepted};
+ghost use Rattle.refusal.specs.Refusals.{nothing_refused};
 ghost use Rattle.board.specs.Moving.{unmade_on};
 ghost use Rattle.board.specs.inner.Gates.{Kept, boarded_of, unmake_gate, replay_gate, replayed_board};
 
@@ -37,8 +37,8 @@ pub fn unmake_gate(t: &[u64; 4096], b: RetractableBoard, r: ChessRetraction) -> 
 {
     let v = super::gate(t, b);
     match v {
-        Verdict::Refused(w) => Verdict::Refused(w),
-        Verdict::Accepted => {
+        Err(w) => Err(w),
+        Ok(()) => {
             let p = super::position_of(b);
             let u = unmake::inner::unmake(t, p, r);
             u.verdict
@@ -48,7 +48,7 @@ pub fn unmake_gate(t: &[u64; 4096], b: RetractableBoard, r: ChessRetraction) -> 
 
 // The board before a retraction that passes 1 to 7 and 9 to 12: its sets go back as the Laws' board's.
 pub fn unmade(t: &[u64; 4096], b: RetractableBoard, r: ChessRetraction) -> RetractableBoard
-    requires { IsBetween t.now × (unmake_gate b r ≡ Accepted) }
+    requires { IsBetween t.now × (unmake_gate b r ≡ nothing_refused) }
     ensures { result ≡ unmade_on b r }
 {
     let today = super::to_laws(b);
@@ -64,8 +64,8 @@ pub fn replayed(t: &[u64; 4096], b: RetractableBoard, r: ChessRetraction, kind: 
 {
     let v = replay_gate(t, b);
     match v {
-        Verdict::Refused(w) => super::board_by(Verdict::Refused(w), super::super::no_board()),
-        Verdict::Accepted => {
+        Err(w) => super::board_by(Err(w), super::super::no_board()),
+        Ok(()) => {
             let p = super::position_of(b);
             let u = replay::inner::replay(t, p, r, kind);
             boarded(t, u)

@@ -4,7 +4,7 @@ ghost use Rattle.puts.specs.inner.Growing.{Grows};
 use board::{Boarded, RetractableBoard};
 use laws::Edition;
 use position_text::{Form, Raw};
-use refusal::{Refusal, Verdict};
+use refusal::Refusal;
 
 // `raw TAB p n b r q k white black turn rights state`: the sets in hexadecimal, a square as its number
 pub(super) fn raw(line: &[u8], out: &mut [u8; 65536]) -> usize
@@ -34,8 +34,8 @@ pub(super) fn replay(line: &[u8], out: &mut [u8; 65536]) -> usize
     let before = earlier(position_text::inner::read_raw(fields::inner::text(line, at), Edition::A));
     let v = before.verdict;
     match v {
-        Verdict::Refused(w) => puts::inner::refused(w, out),
-        Verdict::Accepted => {
+        Err(w) => puts::inner::refused(w, out),
+        Ok(()) => {
             let b = before.board;
             board_field::inner::put_boarded(b.replay(r, kind), out)
         }
@@ -47,7 +47,7 @@ fn earlier(raw: Raw) -> Boarded {
     let form = raw.form;
     match form {
         Form::OutOfForm => board::inner::board_by(
-            Verdict::Refused(Refusal::Text),
+            Err(Refusal::Text),
             board::no_board(),
         ),
         Form::InForm => {

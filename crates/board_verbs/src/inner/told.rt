@@ -3,7 +3,6 @@ ghost use Rattle.puts.specs.inner.Growing.{Grows};
 
 use board::{AttackTold, Attacked, Boarded, PieceOn, PieceTold};
 use laws::Piece;
-use refusal::Verdict;
 
 // The text, the checkers and the pins.
 pub(super) fn put_unmade(b: Boarded, out: &mut [u8; 65536]) -> usize
@@ -12,8 +11,8 @@ pub(super) fn put_unmade(b: Boarded, out: &mut [u8; 65536]) -> usize
     let n = board_field::inner::put_boarded(b, out);
     let v = b.verdict;
     match v {
-        Verdict::Refused(_) => n,
-        Verdict::Accepted => {
+        Err(_) => n,
+        Ok(()) => {
             let board = b.board;
             let c = puts::inner::next_set(out, n, board.checkers);
             puts::inner::next_set(out, c, board.pinned)

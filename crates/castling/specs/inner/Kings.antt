@@ -4,9 +4,7 @@ use Rattle.geometry.specs.declared.Color.{Color}
 use Rattle.laws.specs.declared.Piece.TheVariants.{King}
 use Rattle.laws.specs.Men.{man, Men, same_man}
 use Rattle.refusal.specs.declared.Refusal.TheVariants.{Step}
-use Rattle.refusal.specs.declared.Verdict.{Verdict}
-use Rattle.refusal.specs.declared.Verdict.TheVariants.{Accepted}
-use Rattle.refusal.specs.Refusals.{unless, and_then}
+use Rattle.refusal.specs.Refusals.{unless, and_then, Verdict, nothing_refused}
 
 abbrev pub king_after : Verdict → Men → Color → ℕ → Verdict
-king_after v m c sq = and_then v (unless (same_man (m sq) (man c King)) Step Accepted)
+king_after v m c sq = and_then v (unless (same_man (m sq) (man c King)) Step nothing_refused)

@@ -1,7 +1,6 @@
 // The masks and the entries of a cursor, put into an answer.
 ghost use Rattle.puts.specs.inner.Growing.{Grows};
 
-use refusal::Verdict;
 use retraction_gen::{Made, Masks, RetractionGen};
 use retraction_list::{SourceAndTargets, UnCaptureKind};
 
@@ -10,8 +9,8 @@ pub(super) fn put_made(m: Made, out: &mut [u8; 65536]) -> usize
 {
     let v = m.verdict;
     match v {
-        Verdict::Refused(r) => puts::inner::refused(r, out),
-        Verdict::Accepted => {
+        Err(r) => puts::inner::refused(r, out),
+        Ok(()) => {
             let g = m.cursor;
             put_cursor(g, out)
         }
@@ -74,8 +73,8 @@ pub(super) fn put_masks(m: Masks, out: &mut [u8; 65536]) -> usize
 {
     let v = m.verdict;
     match v {
-        Verdict::Refused(r) => puts::inner::refused(r, out),
-        Verdict::Accepted => {
+        Err(r) => puts::inner::refused(r, out),
+        Ok(()) => {
             let masks = m.masks;
             puts::inner::sets(out, 0, masks)
         }

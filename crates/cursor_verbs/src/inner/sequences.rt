@@ -1,7 +1,6 @@
 // What each press of a board's cursor yields.
 ghost use Rattle.puts.specs.inner.Growing.{Grows};
 
-use refusal::Verdict;
 use retraction_gen::{Made, Next, RetractionGen};
 
 // What each press of a board's cursor yields, packed, up to the third end.
@@ -10,8 +9,8 @@ pub(super) fn put(lent: bool, m: Made, out: &mut [u8; 65536]) -> usize
 {
     let v = m.verdict;
     match v {
-        Verdict::Refused(r) => puts::inner::refused(r, out),
-        Verdict::Accepted => {
+        Err(r) => puts::inner::refused(r, out),
+        Ok(()) => {
             let g = m.cursor;
             put_presses(lent, g, out)
         }

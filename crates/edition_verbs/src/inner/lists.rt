@@ -3,7 +3,7 @@ ghost use Rattle.geometry.specs.Lines.{IsBetween};
 ghost use Rattle.puts.specs.inner.Growing.{Grows};
 
 use board::RetractableBoard;
-use refusal::{Refusal, Verdict};
+use refusal::Refusal;
 use retraction_gen::RetractionGen;
 use slots::Listed;
 
@@ -15,8 +15,8 @@ pub(super) fn put_ported(t: &[u64; 4096], b: RetractableBoard, out: &mut [u8; 65
     let made = RetractionGen::new_legal(b);
     let v = made.verdict;
     match v {
-        Verdict::Refused(r) => puts::inner::refused(r, out),
-        Verdict::Accepted => {
+        Err(r) => puts::inner::refused(r, out),
+        Ok(()) => {
             let g = made.cursor;
             let mut slots = [0u16; 8192];
             let l = listing::inner::retractions_into(t, b, &mut slots);

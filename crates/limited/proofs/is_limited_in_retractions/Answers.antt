@@ -9,10 +9,10 @@ use Rattle.limited.proofs.Fitting.{limited_refused, limited_on}
 use Rattle.limited.proofs.is_limited_in_retractions.Goals as goal
 
 pub limited_from-requires : goal.limited_from-requires
-limited_from-requires c = let b = c.args.b in (c.between_table-t.ensures, seen_whole b (let e : length b.pieces ≡ 6 = search rules in e) (let e : length b.colors ≡ 2 = search rules in e) (λ i. let f : Fits w64 (get_or b.pieces i 0) = search rules in f.fits) (λ i. let f : Fits w64 (get_or b.colors i 0) = search rules in f.fits) (sym c.gate-v.ensures ∙ c.in-Accepted.is))
+limited_from-requires c = let b = c.args.b in (c.between_table-t.ensures, seen_whole b (let e : length b.pieces ≡ 6 = search rules in e) (let e : length b.colors ≡ 2 = search rules in e) (λ i. let f : Fits w64 (get_or b.pieces i 0) = search rules in f.fits) (λ i. let f : Fits w64 (get_or b.colors i 0) = search rules in f.fits) (sym c.gate-v.ensures ∙ c.in-Ok.is))
 
-pub returns-in-Refused : goal.returns-in-Refused
-returns-in-Refused c = limited_refused _ _ c.gate-v.ensures c.in-Refused.why c.in-Refused.is
+pub returns-in-Err : goal.returns-in-Err
+returns-in-Err c = limited_refused _ _ c.gate-v.ensures c.in-Err.why c.in-Err.is
 
-pub returns-in-Accepted : goal.returns-in-Accepted
-returns-in-Accepted c = limited_on _ _ c.gate-v.ensures c.limited_from.result c.in-Accepted.is c.limited_from.ensures
+pub returns-in-Ok : goal.returns-in-Ok
+returns-in-Ok c = limited_on _ _ c.gate-v.ensures c.limited_from.result c.in-Ok.is c.limited_from.ensures

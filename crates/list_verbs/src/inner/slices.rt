@@ -4,7 +4,7 @@ ghost use Rattle.geometry.specs.Lines.{IsBetween};
 ghost use Rattle.puts.specs.inner.Growing.{Grows};
 
 use board::{Boarded, RetractableBoard};
-use refusal::{Refusal, Verdict};
+use refusal::Refusal;
 use slots::Listed;
 use text::Printed;
 
@@ -36,8 +36,8 @@ fn put_text(today: Boarded, slice: &mut [u8], out: &mut [u8; 65536]) -> usize
 fn printed(today: Boarded, slice: &mut [u8]) -> Printed {
     let v = today.verdict;
     match v {
-        Verdict::Refused(r) => Printed::Refused(r),
-        Verdict::Accepted => {
+        Err(r) => Printed::Refused(r),
+        Ok(()) => {
             let b = today.board;
             text::print(b, slice)
         }
@@ -99,8 +99,8 @@ fn listed(t: &[u64; 4096], strict: bool, today: Boarded, slots: &mut [u16]) -> L
 {
     let v = today.verdict;
     match v {
-        Verdict::Refused(r) => Listed::Refused(r),
-        Verdict::Accepted => {
+        Err(r) => Listed::Refused(r),
+        Ok(()) => {
             let b = today.board;
             into(t, strict, b, slots)
         }

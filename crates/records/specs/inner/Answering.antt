@@ -1,13 +1,11 @@
 -- What the reader makes of its parts, by which the code comes to what `Reads` says.
-use Rattle.std.specs.Prelude.{cond, ℕ, ltb}
+use Rattle.std.specs.Prelude.{cond, ℕ, ltb, Ok, Err}
 use Rattle.laws.specs.declared.EnPassantFlag.{EnPassantFlag}
 use Rattle.laws.specs.declared.Position.{Position}
 use Rattle.record_fields.specs.Counters.{in_range}
 use Rattle.record_fields.specs.Passed.{passed_state, is_known}
 use Rattle.record_fields.specs.inner.Pawns.{pawn_state}
 use Rattle.refusal.specs.declared.Refusal.TheVariants.{Text}
-use Rattle.refusal.specs.declared.Verdict.{Verdict}
-use Rattle.refusal.specs.declared.Verdict.TheVariants.{Accepted, Refused}
 use Rattle.board.specs.declared.RetractableBoard.{RetractableBoard}
 use Rattle.board.specs.Gate.{no_board}
 use Rattle.board.specs.inner.Gates.{new_of}
@@ -18,6 +16,7 @@ use Rattle.records.specs.declared.Why.{Why}
 use Rattle.records.specs.declared.Why.TheVariants.{Base, Counter}
 use Rattle.records.specs.declared.Outcome.TheVariants.{Taken, Refused as notTaken}
 use Rattle.records.specs.declared.Recorded.{Recorded}
+use Rattle.refusal.specs.Refusals.{Verdict}
 
 -- a position with another state
 abbrev pub with_state : Position → EnPassantFlag → Position
@@ -34,8 +33,8 @@ abbrev pub taken : RetractableBoard → ℕ → ℕ → Recorded
 taken b h n = record { outcome = Taken; board = b; half = h; full = n }
 
 abbrev pub recorded_by : Verdict → RetractableBoard → ℕ → ℕ → Recorded
-recorded_by Accepted b h n = taken b h n
-recorded_by (Refused r) b h n = no_record (Base r)
+recorded_by (Ok _) b h n = taken b h n
+recorded_by (Err r) b h n = no_record (Base r)
 
 -- 15, then 1 to 6
 abbrev pub record_said : Position → ℕ → ℕ → Recorded

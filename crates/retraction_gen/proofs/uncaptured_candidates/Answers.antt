@@ -4,9 +4,9 @@ use Rattle.retraction_gen.specs.Making.{masks_on}
 use Rattle.retraction_gen.proofs.Gated.{masked_refused, masked_on}
 use Rattle.retraction_gen.proofs.uncaptured_candidates.Goals as goal
 
-pub returns-in-Refused : goal.returns-in-Refused
-returns-in-Refused c = masked_refused _ _ c.gate-v.ensures _ _ c.in-Refused.is (refl, refl)
+pub returns-in-Err : goal.returns-in-Err
+returns-in-Err c = masked_refused _ _ c.gate-v.ensures _ _ c.in-Err.is (refl, refl)
 
-pub returns-in-Accepted : goal.returns-in-Accepted
+pub returns-in-Ok : goal.returns-in-Ok
 unfolding masks_on
-returns-in-Accepted c = masked_on _ _ c.gate-v.ensures _ c.in-Accepted.is (refl, rw c.position_of.ensures at c.candidates-masks.ensures)
+returns-in-Ok c = masked_on _ _ c.gate-v.ensures _ c.in-Ok.is (refl, rw c.position_of.ensures at c.candidates-masks.ensures)

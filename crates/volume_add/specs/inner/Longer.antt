@@ -1,8 +1,7 @@
 -- The longer volume, part by part.
-use Rattle.std.specs.Prelude.{◌≡◌, List, ◌++◌, ℕ, ◌+◌, ◌*◌, ◌≤◌, ◌<◌, length, take, drop}
+use Rattle.std.specs.Prelude.{◌≡◌, List, ◌++◌, ℕ, ◌+◌, ◌*◌, ◌≤◌, ◌<◌, length, take, drop, Err}
 use Rattle.laws.specs.declared.Position.{Position}
 use Rattle.refusal.specs.declared.Refusal.{Refusal}
-use Rattle.refusal.specs.declared.Verdict.TheVariants.{Accepted, Refused as refused}
 use Rattle.accept.specs.Verdicts.{judged_of}
 use Rattle.volume_body.specs.Layout.{bodied}
 use Rattle.volume_contents.specs.declared.Flaw.{Flaw}
@@ -15,6 +14,7 @@ use Rattle.volume_contents.specs.Contents.{row_at, number_before}
 use Rattle.volume_contents.specs.inner.Walks.{edition_of}
 use Rattle.volume_make.specs.inner.Filling.{joined}
 use Rattle.volume_add.specs.Adding.{number_tested}
+use Rattle.refusal.specs.Refusals.{nothing_refused}
 
 -- the row i of a volume of n problems that becomes one longer
 abbrev pub carried : List ℕ → ℕ → ℕ → List ℕ
@@ -25,7 +25,7 @@ longer v n k p = head_of (n + 1) ++ joined (carried v n) n ++ row_of k p.terms.e
 
 pub data AddsTo (v : List ℕ) (n k : ℕ) (p : Position) (o : List ℕ) (r : Written) (x : List ℕ) : Type 0 where
   misnumbered : (w : Flaw) → number_tested (number_before v n) k ≡ Flawed w → r ≡ Refused (Contents w (n + 1)) → x ≡ o → AddsTo v n k p o r x
-  unjudged : (w : Refusal) → number_tested (number_before v n) k ≡ Sound → judged_of p ≡ refused w → r ≡ Refused (Board w (n + 1)) → x ≡ o → AddsTo v n k p o r x
-  narrow : number_tested (number_before v n) k ≡ Sound → judged_of p ≡ Accepted → length o < 48 + 42 * n → r ≡ Refused (Room (48 + 42 * n)) → x ≡ o → AddsTo v n k p o r x
-  added : number_tested (number_before v n) k ≡ Sound → judged_of p ≡ Accepted → 48 + 42 * n ≤ length o → r ≡ Count (48 + 42 * n)
+  unjudged : (w : Refusal) → number_tested (number_before v n) k ≡ Sound → judged_of p ≡ Err w → r ≡ Refused (Board w (n + 1)) → x ≡ o → AddsTo v n k p o r x
+  narrow : number_tested (number_before v n) k ≡ Sound → judged_of p ≡ nothing_refused → length o < 48 + 42 * n → r ≡ Refused (Room (48 + 42 * n)) → x ≡ o → AddsTo v n k p o r x
+  added : number_tested (number_before v n) k ≡ Sound → judged_of p ≡ nothing_refused → 48 + 42 * n ≤ length o → r ≡ Count (48 + 42 * n)
       → x ≡ longer v n k p ++ drop (48 + 42 * n) o → AddsTo v n k p o r x

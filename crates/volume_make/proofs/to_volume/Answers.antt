@@ -20,16 +20,16 @@ returns-then-n-gt-MOST c = told_many c.args.lines.now c.survey-s.result (subst (
 
 -- src/lib.rt:32:17
 pub returns-then-out-need : goal.returns-then-out-need
-returns-then-out-need c = told_room c.args.lines.now c.survey-s.result (subst (λ (b : Named). Surveyed c.args.lines.now 0 b c.survey-s.result) c.unrefused.ensures c.survey-s.ensures) c.args.out.now c.if-s-lines.false (omega (arith, c.if-n-gt-MOST.false)) c.in-Accepted.is (omega (arith, c.if-out-need.true))
+returns-then-out-need c = told_room c.args.lines.now c.survey-s.result (subst (λ (b : Named). Surveyed c.args.lines.now 0 b c.survey-s.result) c.unrefused.ensures c.survey-s.ensures) c.args.out.now c.if-s-lines.false (omega (arith, c.if-n-gt-MOST.false)) c.in-Ok.is (omega (arith, c.if-out-need.true))
 
 -- src/lib.rt:34:13
 pub write-requires : goal.write-requires
 write-requires c = (omega (arith, c.if-n-gt-MOST.false), counted c.args.lines.now c.survey-s.result (subst (λ (b : Named). Surveyed c.args.lines.now 0 b c.survey-s.result) c.unrefused.ensures c.survey-s.ensures) c.args.out.now c.if-s-lines.false (omega (arith, c.if-out-need.false)))
 
 -- src/lib.rt:14:1
-pub returns-in-Refused : goal.returns-in-Refused
-returns-in-Refused c = told_refuses c.args.lines.now c.survey-s.result (subst (λ (b : Named). Surveyed c.args.lines.now 0 b c.survey-s.result) c.unrefused.ensures c.survey-s.ensures) c.args.out.now c.if-s-lines.false _ (omega (arith, c.if-n-gt-MOST.false)) c.in-Refused.is
+pub returns-in-Err : goal.returns-in-Err
+returns-in-Err c = told_refuses c.args.lines.now c.survey-s.result (subst (λ (b : Named). Surveyed c.args.lines.now 0 b c.survey-s.result) c.unrefused.ensures c.survey-s.ensures) c.args.out.now c.if-s-lines.false _ (omega (arith, c.if-n-gt-MOST.false)) c.in-Err.is
 
 -- src/lib.rt:14:1
 pub returns-else-out-need : goal.returns-else-out-need
-returns-else-out-need c = told_written c.args.lines.now c.survey-s.result (subst (λ (b : Named). Surveyed c.args.lines.now 0 b c.survey-s.result) c.unrefused.ensures c.survey-s.ensures) c.args.out.now c.if-s-lines.false _ (omega (arith, c.if-n-gt-MOST.false)) c.in-Accepted.is (omega (arith, c.if-out-need.false)) c.write.ensures
+returns-else-out-need c = told_written c.args.lines.now c.survey-s.result (subst (λ (b : Named). Surveyed c.args.lines.now 0 b c.survey-s.result) c.unrefused.ensures c.survey-s.ensures) c.args.out.now c.if-s-lines.false _ (omega (arith, c.if-n-gt-MOST.false)) c.in-Ok.is (omega (arith, c.if-out-need.false)) c.write.ensures

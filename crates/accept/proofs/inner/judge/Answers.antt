@@ -10,16 +10,16 @@ use borrow.Author.Rules.{rules}
 use Rattle.accept.proofs.inner.judge.Goals as goal
 
 pub bad_check-requires : goal.bad_check-requires
-bad_check-requires c = let p = c.args.p in let w = five_passes p (sym c.five-v.ensures ∙ c.in-Accepted.is) in (clean p.pieces p.colors (let e : length p.pieces ≡ 6 = search rules in e) (let e : length p.colors ≡ 2 = search rules in e) (λ i. let f : Fits w64 (get_or p.pieces i 0) = search rules in f.fits) (λ i. let f : Fits w64 (get_or p.colors i 0) = search rules in f.fits) w.men_pass, w.passes.kings)
+bad_check-requires c = let p = c.args.p in let w = five_passes p (sym c.five-v.ensures ∙ c.in-Ok.is) in (clean p.pieces p.colors (let e : length p.pieces ≡ 6 = search rules in e) (let e : length p.colors ≡ 2 = search rules in e) (λ i. let f : Fits w64 (get_or p.pieces i 0) = search rules in f.fits) (λ i. let f : Fits w64 (get_or p.colors i 0) = search rules in f.fits) w.men_pass, w.passes.kings)
 
 pub returns-then-bad_check : goal.returns-then-bad_check
 unfolding judged_of
-returns-then-bad_check c = rw (sym c.five-v.ensures ∙ c.in-Accepted.is, sym c.bad_check.ensures ∙ c.if-bad_check.true)
+returns-then-bad_check c = rw (sym c.five-v.ensures ∙ c.in-Ok.is, sym c.bad_check.ensures ∙ c.if-bad_check.true)
 
-pub returns-in-Refused : goal.returns-in-Refused
+pub returns-in-Err : goal.returns-in-Err
 unfolding judged_of
-returns-in-Refused c = rw (sym c.five-v.ensures ∙ c.in-Refused.is)
+returns-in-Err c = rw (sym c.five-v.ensures ∙ c.in-Err.is)
 
 pub returns-else-bad_check : goal.returns-else-bad_check
 unfolding judged_of
-returns-else-bad_check c = rw (sym c.five-v.ensures ∙ c.in-Accepted.is, sym c.bad_check.ensures ∙ c.if-bad_check.false)
+returns-else-bad_check c = rw (sym c.five-v.ensures ∙ c.in-Ok.is, sym c.bad_check.ensures ∙ c.if-bad_check.false)

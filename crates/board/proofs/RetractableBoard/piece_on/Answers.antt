@@ -5,8 +5,7 @@ use mir.Syntax.{w64}
 use mir.Val.{Fits}
 use borrow.Author.Rules.{rules}
 use borrow.Author.Tests.{ltb-true}
-use Rattle.refusal.specs.declared.Verdict.{Verdict}
-use Rattle.refusal.specs.Refusals.{verdict_number}
+use Rattle.refusal.specs.Refusals.{verdict_number, Verdict}
 use Rattle.board.specs.declared.RetractableBoard.{RetractableBoard}
 use Rattle.board.specs.Gate.{men_on}
 use Rattle.board.specs.Said.{piece_says}
@@ -16,8 +15,8 @@ use Rattle.board.proofs.Saying.{tells_by}
 use Rattle.board.proofs.Passing.{gate_sound, ask_number, ask_accepted, kind_read_lem}
 use Rattle.board.proofs.RetractableBoard.piece_on.Goals as goal
 
-pub returns-in-Refused : goal.returns-in-Refused
-returns-in-Refused c = let b = c.args.self in let sq = c.args.sq in tells_by c.ask_gate-v.result (ask_tests b sq) b (ap (λ (v : Verdict). verdict_number v) c.ask_gate-v.ensures ∙ ask_number b sq) (piece_says (kind_on (men_on b sq))) (rw c.in-Refused.is) c.kept-self.ensures
+pub returns-in-Err : goal.returns-in-Err
+returns-in-Err c = let b = c.args.self in let sq = c.args.sq in tells_by c.ask_gate-v.result (ask_tests b sq) b (ap (λ (v : Verdict). verdict_number v) c.ask_gate-v.ensures ∙ ask_number b sq) (piece_says (kind_on (men_on b sq))) (rw c.in-Err.is) c.kept-self.ensures
 
-pub returns-in-Accepted : goal.returns-in-Accepted
-returns-in-Accepted c = let b = c.args.self in let sq = c.args.sq in let e : c.kept-self.result ≡ b = c.kept-self.ensures ∙ rw c.in-Accepted.is in let k = ask_accepted b sq (sym c.ask_gate-v.ensures ∙ c.in-Accepted.is) in tells_by c.ask_gate-v.result (ask_tests b sq) b (ap (λ (v : Verdict). verdict_number v) c.ask_gate-v.ensures ∙ ask_number b sq) (piece_says (kind_on (men_on b sq))) (rw (c.in-Accepted.is, c.kind_on-answer.ensures) (ap (λ (x : RetractableBoard). piece_says (kind_read x sq)) e ∙ ap piece_says (kind_read_lem b sq (gate_sound b (let e : length b.pieces ≡ 6 = search rules in e) (let e : length b.colors ≡ 2 = search rules in e) (λ i. let f : Fits w64 (get_or b.pieces i 0) = search rules in f.fits) (λ i. let f : Fits w64 (get_or b.colors i 0) = search rules in f.fits) k.0).clean k.0 (ltb-true sq 64 k.1)))) c.kept-self.ensures
+pub returns-in-Ok : goal.returns-in-Ok
+returns-in-Ok c = let b = c.args.self in let sq = c.args.sq in let e : c.kept-self.result ≡ b = c.kept-self.ensures ∙ rw c.in-Ok.is in let k = ask_accepted b sq (sym c.ask_gate-v.ensures ∙ c.in-Ok.is) in tells_by c.ask_gate-v.result (ask_tests b sq) b (ap (λ (v : Verdict). verdict_number v) c.ask_gate-v.ensures ∙ ask_number b sq) (piece_says (kind_on (men_on b sq))) (rw (c.in-Ok.is, c.kind_on-answer.ensures) (ap (λ (x : RetractableBoard). piece_says (kind_read x sq)) e ∙ ap piece_says (kind_read_lem b sq (gate_sound b (let e : length b.pieces ≡ 6 = search rules in e) (let e : length b.colors ≡ 2 = search rules in e) (λ i. let f : Fits w64 (get_or b.pieces i 0) = search rules in f.fits) (λ i. let f : Fits w64 (get_or b.colors i 0) = search rules in f.fits) k.0).clean k.0 (ltb-true sq 64 k.1)))) c.kept-self.ensures

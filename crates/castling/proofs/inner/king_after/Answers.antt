@@ -3,10 +3,10 @@ use mathlib.Core.Path.{◌∙◌, sym}
 use Rattle.castling.proofs.inner.king_after.Goals as goal
 
 pub returns-then-stands : goal.returns-then-stands
-returns-then-stands c = rw (c.in-Accepted.is, sym c.stands.ensures ∙ c.if-stands.true)
+returns-then-stands c = rw (c.in-Ok.is, sym c.stands.ensures ∙ c.if-stands.true)
 
-pub returns-in-Refused : goal.returns-in-Refused
-returns-in-Refused c = rw c.in-Refused.is
+pub returns-in-Err : goal.returns-in-Err
+returns-in-Err c = rw c.in-Err.is
 
 pub returns-else-stands : goal.returns-else-stands
-returns-else-stands c = rw (c.in-Accepted.is, sym c.stands.ensures ∙ c.if-stands.false)
+returns-else-stands c = rw (c.in-Ok.is, sym c.stands.ensures ∙ c.if-stands.false)

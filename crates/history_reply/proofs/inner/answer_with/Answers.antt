@@ -2,8 +2,8 @@
 use Rattle.history_reply.proofs.Spoken.{text_refused, text_told}
 use Rattle.history_reply.proofs.inner.answer_with.Goals as goal
 
-pub returns-in-Refused : goal.returns-in-Refused
-returns-in-Refused c = text_refused _ _ c.read-r.ensures _ _ c.in-Refused.is c.put_refused.ensures
+pub returns-in-Err : goal.returns-in-Err
+returns-in-Err c = text_refused _ _ c.read-r.ensures _ _ c.in-Err.is c.put_refused.ensures
 
-pub returns-in-Accepted : goal.returns-in-Accepted
-returns-in-Accepted c = text_told _ _ c.read-r.ensures _ c.in-Accepted.is _ c.history_of.ensures c.put_history.ensures
+pub returns-in-Ok : goal.returns-in-Ok
+returns-in-Ok c = text_told _ _ c.read-r.ensures _ c.in-Ok.is _ c.history_of.ensures c.put_history.ensures

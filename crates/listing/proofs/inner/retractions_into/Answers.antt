@@ -4,7 +4,7 @@ use Rattle.listing.proofs.Told.{gate_told}
 use Rattle.listing.proofs.inner.retractions_into.Goals as goal
 
 pub list-requires : goal.list-requires
-list-requires c = (c.requires, sym c.gate-v.ensures ∙ c.in-Accepted.is)
+list-requires c = (c.requires, sym c.gate-v.ensures ∙ c.in-Ok.is)
 
-pub returns-in-Refused : goal.returns-in-Refused
-returns-in-Refused c = gate_told _ _ c.gate-v.ensures _ c.in-Refused.is
+pub returns-in-Err : goal.returns-in-Err
+returns-in-Err c = gate_told _ _ c.gate-v.ensures _ c.in-Err.is

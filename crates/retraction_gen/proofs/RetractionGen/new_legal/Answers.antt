@@ -4,10 +4,10 @@ use Rattle.retraction_gen.proofs.Gated.{makes_refused, makes_on}
 use Rattle.retraction_gen.proofs.RetractionGen.new_legal.Goals as goal
 
 pub made_from-requires : goal.made_from-requires
-made_from-requires c = (c.between_table-t.ensures, sym c.gate-v.ensures ∙ c.in-Accepted.is)
+made_from-requires c = (c.between_table-t.ensures, sym c.gate-v.ensures ∙ c.in-Ok.is)
 
-pub returns-in-Refused : goal.returns-in-Refused
-returns-in-Refused c = makes_refused _ _ c.gate-v.ensures _ _ c.in-Refused.is c.refused.ensures
+pub returns-in-Err : goal.returns-in-Err
+returns-in-Err c = makes_refused _ _ c.gate-v.ensures _ _ c.in-Err.is c.refused.ensures
 
-pub returns-in-Accepted : goal.returns-in-Accepted
-returns-in-Accepted c = makes_on _ _ c.gate-v.ensures _ c.in-Accepted.is c.made_from.ensures
+pub returns-in-Ok : goal.returns-in-Ok
+returns-in-Ok c = makes_on _ _ c.gate-v.ensures _ c.in-Ok.is c.made_from.ensures

@@ -4,7 +4,7 @@ use Rattle.strict.proofs.Told.{listed_refused}
 use Rattle.strict.proofs.inner.strict_into.Goals as goal
 
 pub list-requires : goal.list-requires
-list-requires c = (c.requires, sym c.gate-v.ensures ∙ c.in-Accepted.is)
+list-requires c = (c.requires, sym c.gate-v.ensures ∙ c.in-Ok.is)
 
-pub returns-in-Refused : goal.returns-in-Refused
-returns-in-Refused c = listed_refused _ _ (sym c.gate-v.ensures ∙ c.in-Refused.is) _
+pub returns-in-Err : goal.returns-in-Err
+returns-in-Err c = listed_refused _ _ (sym c.gate-v.ensures ∙ c.in-Err.is) _

@@ -4,10 +4,10 @@ use Rattle.strict_test.proofs.Earlier.{earlier_ready, strict_told, strict_refuse
 use Rattle.strict_test.proofs.inner.is_strict.Goals as goal
 
 pub earlier_ok-requires : goal.earlier_ok-requires
-earlier_ok-requires c = earlier_ready _ _ c.requires.1 _ c.unmake-u.ensures c.in-Accepted.is
+earlier_ok-requires c = earlier_ready _ _ c.requires.1 _ c.unmake-u.ensures c.in-Ok.is
 
-pub returns-in-Refused : goal.returns-in-Refused
-returns-in-Refused c = strict_refused _ _ c.requires.1 _ c.unmake-u.ensures _ c.in-Refused.is
+pub returns-in-Err : goal.returns-in-Err
+returns-in-Err c = strict_refused _ _ c.requires.1 _ c.unmake-u.ensures _ c.in-Err.is
 
-pub returns-in-Accepted : goal.returns-in-Accepted
-returns-in-Accepted c = c.earlier_ok.ensures ∙ strict_told _ _ c.requires.1 _ c.unmake-u.ensures c.in-Accepted.is
+pub returns-in-Ok : goal.returns-in-Ok
+returns-in-Ok c = c.earlier_ok.ensures ∙ strict_told _ _ c.requires.1 _ c.unmake-u.ensures c.in-Ok.is

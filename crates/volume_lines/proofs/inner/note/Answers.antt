@@ -1,13 +1,13 @@
 use Rattle.volume_lines.proofs.inner.note.Goals as goal
 
 -- src/inner.rt:15:1
-pub returns-in-Refused : goal.returns-in-Refused
-returns-in-Refused c = rw c.in-Refused.is
+pub returns-in-Err : goal.returns-in-Err
+returns-in-Err c = rw c.in-Err.is
 
 -- src/inner.rt:15:1
-pub returns-in-Refused-v : goal.returns-in-Refused-v
-returns-in-Refused-v c = rw (c.in-Accepted.is, c.in-Refused-v.is)
+pub returns-in-Err-v : goal.returns-in-Err-v
+returns-in-Err-v c = rw (c.in-Ok.is, c.in-Err-v.is)
 
 -- src/inner.rt:15:1
-pub returns-in-Accepted-v : goal.returns-in-Accepted-v
-returns-in-Accepted-v c = rw (c.in-Accepted.is, c.in-Accepted-v.is)
+pub returns-in-Ok-v : goal.returns-in-Ok-v
+returns-in-Ok-v c = rw (c.in-Ok.is, c.in-Ok-v.is)
