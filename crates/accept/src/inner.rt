@@ -39,9 +39,7 @@ fn third(p: Position) -> Verdict
 pub fn five(p: Position) -> Verdict
     ensures { result ≡ five_of p }
 {
-    let pieces = p.pieces;
-    let colors = p.colors;
-    if men::inner::bad_men(pieces, colors) {
+    if men::inner::bad_men(p.pieces, p.colors) {
         return Err(Refusal::Men);
     }
     if refusals::bad_kings(p) {
@@ -54,17 +52,9 @@ pub fn five(p: Position) -> Verdict
 pub fn judge(p: Position) -> Verdict
     ensures { result ≡ judged_of p }
 {
-    let v = five(p);
-    match v {
-        Err(r) => Err(r),
-        Ok(()) => {
-            let pieces = p.pieces;
-            let colors = p.colors;
-            let turn = p.turn;
-            if pins::inner::bad_check(pieces, colors, turn) {
-                return Err(Refusal::Check);
-            }
-            Ok(())
-        }
+    five(p)?;
+    if pins::inner::bad_check(p.pieces, p.colors, p.turn) {
+        return Err(Refusal::Check);
     }
+    Ok(())
 }

@@ -15,20 +15,15 @@ use Rattle.refusal.specs.Refusals.{verdict_number, Verdict}
 use Rattle.refusal.specs.Said.{Test, first_failing, Said, says, told, behind}
 use Rattle.board.specs.declared.RetractableBoard.{RetractableBoard}
 use Rattle.board.specs.declared.Boarded.{Boarded}
-use Rattle.board.specs.declared.PieceOn.{PieceOn}
-use Rattle.board.specs.declared.PieceOn.TheVariants.{Nobody, Kind, Refused as notAsked}
 use Rattle.board.specs.declared.PieceTold.{PieceTold}
-use Rattle.board.specs.declared.Attackers.{Attackers}
-use Rattle.board.specs.declared.Attackers.TheVariants.{Set, Refused as notNamed}
 use Rattle.board.specs.declared.AttackersTold.{AttackersTold}
-use Rattle.board.specs.declared.Attacked.{Attacked}
-use Rattle.board.specs.declared.Attacked.TheVariants.{Yes, No, Refused as notTold}
 use Rattle.board.specs.declared.AttackTold.{AttackTold}
 use Rattle.board.specs.Gate.{no_board, kept_by, boarded_by}
 use Rattle.board.specs.Said.{kept_behind, Boards, Tells, piece_says, attackers_says, attacked_says}
-use Rattle.board.specs.inner.Gates.{told_by, told_of}
+use Rattle.board.specs.inner.Gates.{told_of}
 use Rattle.refusal.proofs.Saying.{some_number, number_one, verdict_one, said_by, behind_by}
-use Rattle.std.specs.Prelude.{Ok, Err}
+use Rattle.std.specs.Prelude.{Ok, Err, Result, Option, None, Some}
+use Rattle.refusal.specs.declared.Refusal.{Refusal}
 
 module _ (v : Verdict) (ts : List Test) (b : RetractableBoard) (h : verdict_number v ≡ first_failing ts) where
   -- the board beside a verdict
@@ -53,10 +48,10 @@ pub boards_one : {ts : List Test} {b : RetractableBoard} (r q : Boarded) → Boa
 boards_one r q k l = λ i. record { verdict = verdict_one r.verdict q.verdict (k.number ∙ sym l.number) i; board = (k.board ∙ sym l.board) i }
 
 -- a kind by its number
-kind_back : ℕ → PieceOn
-kind_back n = get_or (Nobody ∷ Kind Pawn ∷ Kind Knight ∷ Kind Bishop ∷ Kind Rook ∷ Kind Queen ∷ Kind King ∷ []) n Nobody
+kind_back : ℕ → Result (Option Piece) Refusal
+kind_back n = get_or ((Ok None) ∷ Ok (Some Pawn) ∷ Ok (Some Knight) ∷ Ok (Some Bishop) ∷ Ok (Some Rook) ∷ Ok (Some Queen) ∷ Ok (Some King) ∷ []) n (Ok None)
 
-kind_back_lem : (k : Piece) → kind_back (kind_number k) ≡ Kind k
+kind_back_lem : (k : Piece) → kind_back (kind_number k) ≡ Ok (Some k)
 unfolding kind_back
 kind_back_lem Pawn = refl
 kind_back_lem Knight = refl
@@ -65,50 +60,50 @@ kind_back_lem Rook = refl
 kind_back_lem Queen = refl
 kind_back_lem King = refl
 
-pub piece_one : (x y : PieceOn) → piece_says x ≡ piece_says y → x ≡ y
+pub piece_one : (x y : Result (Option Piece) Refusal) → piece_says x ≡ piece_says y → x ≡ y
 unfolding kind_back
-piece_one Nobody Nobody h = refl
-piece_one Nobody (Kind k) h = let e : 0 ≡ kind_number k = cc in ap kind_back e ∙ kind_back_lem k
-piece_one (Kind k) Nobody h = let e : kind_number k ≡ 0 = cc in sym (kind_back_lem k) ∙ ap kind_back e
-piece_one (Kind k) (Kind l) h = let e : kind_number k ≡ kind_number l = cc in sym (kind_back_lem k) ∙ ap kind_back e ∙ kind_back_lem l
-piece_one (notAsked r) (notAsked q) h = ap notAsked (number_one r q (cc))
-piece_one Nobody (notAsked q) h = let z : ◌≡◌ {A = ℕ} 0 1 = cc in absurd (omega arith)
-piece_one (Kind k) (notAsked q) h = let z : ◌≡◌ {A = ℕ} 0 1 = cc in absurd (omega arith)
-piece_one (notAsked r) Nobody h = let z : ◌≡◌ {A = ℕ} 0 1 = cc in absurd (omega arith)
-piece_one (notAsked r) (Kind l) h = let z : ◌≡◌ {A = ℕ} 0 1 = cc in absurd (omega arith)
+piece_one (Ok None) (Ok None) h = refl
+piece_one (Ok None) (Ok (Some k)) h = let e : 0 ≡ kind_number k = cc in ap kind_back e ∙ kind_back_lem k
+piece_one (Ok (Some k)) (Ok None) h = let e : kind_number k ≡ 0 = cc in sym (kind_back_lem k) ∙ ap kind_back e
+piece_one (Ok (Some k)) (Ok (Some l)) h = let e : kind_number k ≡ kind_number l = cc in sym (kind_back_lem k) ∙ ap kind_back e ∙ kind_back_lem l
+piece_one (Err r) (Err q) h = ap Err (number_one r q (cc))
+piece_one (Ok None) (Err q) h = let z : ◌≡◌ {A = ℕ} 0 1 = cc in absurd (omega arith)
+piece_one (Ok (Some k)) (Err q) h = let z : ◌≡◌ {A = ℕ} 0 1 = cc in absurd (omega arith)
+piece_one (Err r) (Ok None) h = let z : ◌≡◌ {A = ℕ} 0 1 = cc in absurd (omega arith)
+piece_one (Err r) (Ok (Some l)) h = let z : ◌≡◌ {A = ℕ} 0 1 = cc in absurd (omega arith)
 
-pub attackers_one : (x y : Attackers) → attackers_says x ≡ attackers_says y → x ≡ y
-attackers_one (Set s) (Set u) h = ap Set (cc)
-attackers_one (notNamed r) (notNamed q) h = ap notNamed (number_one r q (cc))
-attackers_one (Set s) (notNamed q) h = let z : ◌≡◌ {A = ℕ} 0 1 = cc in absurd (omega arith)
-attackers_one (notNamed r) (Set u) h = let z : ◌≡◌ {A = ℕ} 0 1 = cc in absurd (omega arith)
+pub attackers_one : (x y : Result ℕ Refusal) → attackers_says x ≡ attackers_says y → x ≡ y
+attackers_one (Ok s) (Ok u) h = ap Ok (cc)
+attackers_one (Err r) (Err q) h = ap Err (number_one r q (cc))
+attackers_one (Ok s) (Err q) h = let z : ◌≡◌ {A = ℕ} 0 1 = cc in absurd (omega arith)
+attackers_one (Err r) (Ok u) h = let z : ◌≡◌ {A = ℕ} 0 1 = cc in absurd (omega arith)
 
-pub attacked_one : (x y : Attacked) → attacked_says x ≡ attacked_says y → x ≡ y
-attacked_one Yes Yes h = refl
-attacked_one No No h = refl
-attacked_one (notTold r) (notTold q) h = ap notTold (number_one r q (cc))
-attacked_one Yes No h = let z : ◌≡◌ {A = ℕ} 0 1 = cc in absurd (omega arith)
-attacked_one No Yes h = let z : ◌≡◌ {A = ℕ} 0 1 = cc in absurd (omega arith)
-attacked_one Yes (notTold q) h = let z : ◌≡◌ {A = ℕ} 0 1 = cc in absurd (omega arith)
-attacked_one No (notTold q) h = let z : ◌≡◌ {A = ℕ} 0 1 = cc in absurd (omega arith)
-attacked_one (notTold r) Yes h = let z : ◌≡◌ {A = ℕ} 0 1 = cc in absurd (omega arith)
-attacked_one (notTold r) No h = let z : ◌≡◌ {A = ℕ} 0 1 = cc in absurd (omega arith)
+pub attacked_one : (x y : Result Bool Refusal) → attacked_says x ≡ attacked_says y → x ≡ y
+attacked_one (Ok true) (Ok true) h = refl
+attacked_one (Ok false) (Ok false) h = refl
+attacked_one (Err r) (Err q) h = ap Err (number_one r q (cc))
+attacked_one (Ok true) (Ok false) h = let z : ◌≡◌ {A = ℕ} 0 1 = cc in absurd (omega arith)
+attacked_one (Ok false) (Ok true) h = let z : ◌≡◌ {A = ℕ} 0 1 = cc in absurd (omega arith)
+attacked_one (Ok true) (Err q) h = let z : ◌≡◌ {A = ℕ} 0 1 = cc in absurd (omega arith)
+attacked_one (Ok false) (Err q) h = let z : ◌≡◌ {A = ℕ} 0 1 = cc in absurd (omega arith)
+attacked_one (Err r) (Ok true) h = let z : ◌≡◌ {A = ℕ} 0 1 = cc in absurd (omega arith)
+attacked_one (Err r) (Ok false) h = let z : ◌≡◌ {A = ℕ} 0 1 = cc in absurd (omega arith)
 
 -- whether there is an attacker, by what is said of them
 some_said : Said → Said
 some_said (says n []) = says n []
 some_said (says n (s ∷ vs)) = says n (flag (not (eqb s 0)) ∷ [])
 
-some_said_lem : (x : Attackers) → attacked_says (told_of x) ≡ some_said (attackers_says x)
+some_said_lem : (x : Result ℕ Refusal) → attacked_says (told_of x) ≡ some_said (attackers_says x)
 unfolding some_said
-some_said_lem (Set s) = go (not (eqb s 0))
+some_said_lem (Ok s) = go (not (eqb s 0))
   where
-    go : (t : Bool) → attacked_says (told_by t) ≡ told (flag t ∷ [])
+    go : (t : Bool) → attacked_says (Ok t) ≡ told (flag t ∷ [])
     go true = refl
     go false = refl
-some_said_lem (notNamed r) = refl
+some_said_lem (Err r) = refl
 
-pub told_behind : (ts : List Test) (x y : Attackers) → attackers_says y ≡ behind ts (attackers_says x) → attacked_says (told_of y) ≡ behind ts (attacked_says (told_of x))
+pub told_behind : (ts : List Test) (x y : Result ℕ Refusal) → attackers_says y ≡ behind ts (attackers_says x) → attacked_says (told_of y) ≡ behind ts (attacked_says (told_of x))
 unfolding behind some_said
 told_behind ts x y h = some_said_lem y ∙ ap some_said h ∙ go (eqb (first_failing ts) 0)
   where

@@ -1,5 +1,5 @@
 -- What each method answers, and the tests that it makes.
-use Rattle.std.specs.Prelude.{List, [], ◌∷◌, ◌++◌, ℕ, ltb}
+use Rattle.std.specs.Prelude.{List, [], ◌∷◌, ◌++◌, ℕ, ltb, Option, None, Some}
 use Rattle.laws.specs.declared.Position.{Position}
 use Rattle.laws.specs.declared.EnPassantFlag.{EnPassantFlag}
 use Rattle.laws.specs.Men.{Man, empty, man}
@@ -9,10 +9,8 @@ use Rattle.laws.specs.Boards.{men_in}
 use Rattle.refusal.specs.declared.Refusal.TheVariants.{Source, Passant}
 use Rattle.refusal.specs.Said.{Test, ◌else◌}
 use Rattle.board.specs.declared.RetractableBoard.{RetractableBoard}
-use Rattle.board.specs.declared.PieceOn.{PieceOn}
-use Rattle.board.specs.declared.PieceOn.TheVariants.{Nobody, Kind}
-use Rattle.board.specs.declared.Attacked.TheVariants.{No}
 use Rattle.board.specs.Gate.{men_on, board_tests}
+use Rattle.laws.specs.declared.Piece.{Piece}
 
 -- a position's board, its union, pins and checkers worked out
 abbrev pub worked_of : Position → RetractableBoard
@@ -34,9 +32,9 @@ abbrev pub ask_tests : RetractableBoard → ℕ → List Test
 ask_tests b sq = board_tests b ++ ((ltb sq 64 else Source) ∷ [])
 
 -- the kind on a square
-abbrev pub kind_on : Man → PieceOn
-kind_on empty = Nobody
-kind_on (man c k) = Kind k
+abbrev pub kind_on : Man → Option Piece
+kind_on empty = None
+kind_on (man c k) = Some k
 
 -- "`set_en_passant` tests 5 again for its new state (none after unknown is allowed, on its caller's word)"
 abbrev pub state_tests : RetractableBoard → EnPassantFlag → List Test

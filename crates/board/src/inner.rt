@@ -120,15 +120,11 @@ fn stale_after(t: &[u64; 4096], v: Verdict, b: RetractableBoard) -> Verdict
     requires { IsBetween t.now × Kept v (position_on b) }
     ensures { result ≡ stale_after v b }
 {
-    match v {
-        Err(r) => Err(r),
-        Ok(()) => {
-            if stale(t, b) {
-                return Err(Refusal::Stale);
-            }
-            Ok(())
-        }
+    v?;
+    if stale(t, b) {
+        return Err(Refusal::Stale);
     }
+    Ok(())
 }
 
 // Refusals 1 to 7.
@@ -136,9 +132,7 @@ pub fn gate(t: &[u64; 4096], b: RetractableBoard) -> Verdict
     requires { IsBetween t.now }
     ensures { result ≡ gate_of b }
 {
-    let p = position_of(b);
-    let v = accept::inner::judge(p);
-    stale_after(t, v, b)
+    stale_after(t, accept::inner::judge(position_of(b)), b)
 }
 
 // Refusals 1 to 7, then 9 for a square asked about.
@@ -146,16 +140,11 @@ pub fn ask_gate(t: &[u64; 4096], b: RetractableBoard, sq: u8) -> Verdict
     requires { IsBetween t.now }
     ensures { result ≡ ask_gate b sq }
 {
-    let v = gate(t, b);
-    match v {
-        Err(r) => Err(r),
-        Ok(()) => {
-            if sq > 63 {
-                return Err(Refusal::Source);
-            }
-            Ok(())
-        }
+    gate(t, b)?;
+    if sq > 63 {
+        return Err(Refusal::Source);
     }
+    Ok(())
 }
 
 // Refusals 1 to 7, then 5 for another state.
@@ -163,18 +152,15 @@ pub fn state_gate(t: &[u64; 4096], b: RetractableBoard, passant: EnPassantFlag) 
     requires { IsBetween t.now }
     ensures { result ≡ state_gate b passant }
 {
-    let v = gate(t, b);
-    match v {
-        Err(r) => Err(r),
-        Ok(()) => {
-            let today = position_of(b);
-            let p = Position { passant, ..today };
-            if accept::inner::refusals::bad_passant(p) {
-                return Err(Refusal::Passant);
-            }
-            Ok(())
-        }
+    gate(t, b)?;
+    let p = Position {
+        passant,
+        ..position_of(b)
+    };
+    if accept::inner::refusals::bad_passant(p) {
+        return Err(Refusal::Passant);
     }
+    Ok(())
 }
 
 // A position's board: union, checkers and pins worked out.

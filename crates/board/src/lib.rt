@@ -8,9 +8,8 @@ ghost use Rattle.laws.specs.Boards.{Clean};
 ghost use Rattle.accept.specs.Verdicts.{raw_tests};
 ghost use Rattle.board.specs.Gate.{men_on, pos_on, board_tests, position_from, no_board};
 ghost use Rattle.board.specs.Said.{Boards, Tells, piece_says, attackers_says, attacked_says};
-ghost use Rattle.board.specs.declared.Attackers.TheVariants.{Set};
 ghost use Rattle.board.specs.Answers.{worked_of, ask_tests, kind_on, state_tests, with_passant};
-ghost use Rattle.board.specs.inner.Gates.{kind_read, told_by, told_of};
+ghost use Rattle.board.specs.inner.Gates.{kind_read, told_of};
 ghost use Rattle.board.specs.Moving.{unmake_tests, unmade_on, replay_tests, replayed_on};
 
 use laws::{CastleRights, ChessRetraction, Color, Edition, EnPassantFlag, Piece, Position, Terms};
@@ -41,44 +40,24 @@ pub struct Boarded {
     pub board: RetractableBoard,
 }
 
-#[derive(Drop)]
-pub enum PieceOn {
-    Nobody,
-    Kind(Piece),
-    Refused(Refusal),
-}
-
-#[derive(Drop)]
-pub enum Attackers {
-    Set(u64),
-    Refused(Refusal),
-}
-
-#[derive(Drop)]
-pub enum Attacked {
-    Yes,
-    No,
-    Refused(Refusal),
-}
-
 // The kind on a square beside the board that was asked, or a refusal beside the empty board.
 #[derive(Drop)]
 pub struct PieceTold {
-    pub answer: PieceOn,
+    pub answer: Result<Option<Piece>, Refusal>,
     pub board: RetractableBoard,
 }
 
 // The men that attack a square, in the same way.
 #[derive(Drop)]
 pub struct AttackersTold {
-    pub answer: Attackers,
+    pub answer: Result<u64, Refusal>,
     pub board: RetractableBoard,
 }
 
 // Whether a square is attacked, in the same way.
 #[derive(Drop)]
 pub struct AttackTold {
-    pub answer: Attacked,
+    pub answer: Result<bool, Refusal>,
     pub board: RetractableBoard,
 }
 
@@ -143,18 +122,18 @@ impl RetractableBoard {
 
     // What kind stands on a square: refusals 1 to 7, then 9.
     pub fn piece_on(mut self, sq: u8) -> PieceTold
-        ensures { Tells (ask_tests self sq) (piece_says (kind_on (men_on self sq))) self (piece_says result.answer) result.board }
+        ensures { Tells (ask_tests self sq) (piece_says (Ok (kind_on (men_on self sq)))) self (piece_says result.answer) result.board }
     {
         let t = tables::between_table();
         let v = inner::ask_gate(&t, self, sq);
         self = inner::kept(v, self);
         match v {
             Err(w) => PieceTold {
-                answer: PieceOn::Refused(w),
+                answer: Err(w),
                 board: self,
             },
             Ok(()) => {
-                let answer = kind_on(self, sq);
+                let answer = Ok(kind_on(self, sq));
                 PieceTold {
                     answer,
                     board: self,
@@ -165,20 +144,20 @@ impl RetractableBoard {
 
     // The men of a colour that attack a square: refusals 1 to 7, then 9.
     pub fn attackers(mut self, sq: u8, color: Color) -> AttackersTold
-        ensures { Tells (ask_tests self sq) (attackers_says (Set (attackers_of (men_on self) color sq))) self (attackers_says result.answer) result.board }
+        ensures { Tells (ask_tests self sq) (attackers_says (Ok (attackers_of (men_on self) color sq))) self (attackers_says result.answer) result.board }
     {
         let t = tables::between_table();
         let v = inner::ask_gate(&t, self, sq);
         self = inner::kept(v, self);
         match v {
             Err(w) => AttackersTold {
-                answer: Attackers::Refused(w),
+                answer: Err(w),
                 board: self,
             },
             Ok(()) => {
                 let men = attackers_on(self, sq, color);
                 AttackersTold {
-                    answer: Attackers::Set(men),
+                    answer: Ok(men),
                     board: self,
                 }
             }
@@ -186,16 +165,13 @@ impl RetractableBoard {
     }
 
     // Whether a man of a colour attacks a square: refusals 1 to 7, then 9.
-    pub fn is_attacked(mut self, sq: u8, color: Color) -> AttackTold
-        ensures { Tells (ask_tests self sq) (attacked_says (told_by (attacked (men_on self) color sq))) self (attacked_says result.answer) result.board }
+    pub fn is_attacked(self, sq: u8, color: Color) -> AttackTold
+        ensures { Tells (ask_tests self sq) (attacked_says (Ok (attacked (men_on self) color sq))) self (attacked_says result.answer) result.board }
     {
         let z = self.attackers(sq, color);
-        self = z.board;
-        let men = z.answer;
-        let answer = told(men);
         AttackTold {
-            answer,
-            board: self,
+            answer: told(z.answer),
+            board: z.board,
         }
     }
 
@@ -258,27 +234,18 @@ fn attackers_on(b: RetractableBoard, sq: u8, color: Color) -> u64
 }
 
 // Whether there is an attacker.
-fn told(men: Attackers) -> Attacked
+fn told(men: Result<u64, Refusal>) -> Result<bool, Refusal>
     ensures { result ≡ told_of men }
 {
-    match men {
-        Attackers::Refused(w) => Attacked::Refused(w),
-        Attackers::Set(s) => {
-            if s != 0 {
-                return Attacked::Yes;
-            }
-            Attacked::No
-        }
-    }
+    Ok(men? != 0)
 }
 
 // Who stands on a square, as board.rs's `piece_on` reads the sets.
-fn kind_on(b: RetractableBoard, sq: u8) -> PieceOn
+fn kind_on(b: RetractableBoard, sq: u8) -> Option<Piece>
     ensures { result ≡ kind_read b sq }
 {
     if squares::has(b.combined, sq) {
-        let x = inner::to_laws(b);
-        return PieceOn::Kind(back::inner::piece_at(x, sq));
+        return Some(back::inner::piece_at(inner::to_laws(b), sq));
     }
-    PieceOn::Nobody
+    None
 }

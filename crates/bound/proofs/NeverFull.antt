@@ -24,7 +24,6 @@ use Rattle.retraction_gen.specs.Making.{list_on, full_test, list_tests, cursor_o
 use Rattle.retraction_gen.specs.Sequence.{sequence_on}
 use Rattle.slots.specs.declared.Listed.{Listed}
 use Rattle.slots.specs.Slots.{listed_says}
-use Rattle.limited.specs.declared.Limited.{Limited}
 use Rattle.limited.specs.Limiting.{limited_says, names_square, flipped, pawnless_on, nothing_on, side_of, sides_of, limited_from, limited_of}
 use Rattle.bound.specs.Limits.{men, limit, Enough}
 use Rattle.laws.proofs.Mans.{opp_opp}
@@ -35,6 +34,8 @@ use Rattle.refusal.proofs.Tested.{beside_none, pass_on}
 use Rattle.board.proofs.Passing.{gate_judged}
 use Rattle.board.proofs.Numbers.{passed_gate}
 use Rattle.bound.proofs.Sixteen.{list_fits, pawnless_fits}
+use Rattle.std.specs.Prelude.{Result}
+use Rattle.refusal.specs.declared.Refusal.{Refusal}
 
 -- 8 passes where the list fits
 fits_passes : (es : List SourceAndTargets) → length es ≤ 47 → first_failing (full_test es) ≡ 0
@@ -89,7 +90,7 @@ module _ (b : RetractableBoard) (shape : Shaped (to_laws b)) (accepted : first_f
     lists o after r k = k.answer ∙ sym (behind_by nothing_refused (list_tests b) _ (sym passes))
 
     -- the limited test answers, where the other side has no more men either
-    pub limits : men b b.turn ≤ limit → (r : Limited) → limited_says r ≡ limited_of b → number_said (limited_says r) ≡ 0
+    pub limits : men b b.turn ≤ limit → (r : Result Bool Refusal) → limited_says r ≡ limited_of b → number_said (limited_says r) ≡ 0
     unfolding limited_from sides_of
     limits fewer r k =
         ap number_said (k ∙ sym (behind_by nothing_refused (board_tests b) _ (sym nothing_refused)))

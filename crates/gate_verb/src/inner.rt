@@ -2,13 +2,11 @@
 // that an entry which lets the board pass refuses them, where it can: 64 for a square, and slices without room.
 ghost use Rattle.puts.specs.inner.Growing.{Grows};
 
-use board::{Attacked, Boarded, PieceOn, RetractableBoard};
+use board::{Boarded, RetractableBoard};
 use laws::{ChessRetraction, Color, EnPassantFlag};
-use limited::Limited;
 use refusal::{Refusal, Verdict};
 use retraction_gen::RetractionGen;
 use slots::Listed;
-use strict::{Counted, LastMove};
 use text::Printed;
 
 // The answer to a line of this verb, 0 bytes to any other.
@@ -94,9 +92,9 @@ fn of_piece(b: RetractableBoard) -> u64 {
     let told = b.piece_on(64);
     let p = told.answer;
     match p {
-        PieceOn::Nobody => 0,
-        PieceOn::Kind(_) => 0,
-        PieceOn::Refused(r) => of_refusal(r),
+        Ok(None) => 0,
+        Ok(Some(_)) => 0,
+        Err(r) => of_refusal(r),
     }
 }
 
@@ -104,9 +102,9 @@ fn of_attacked(b: RetractableBoard) -> u64 {
     let told = b.is_attacked(64, Color::White);
     let a = told.answer;
     match a {
-        Attacked::Yes => 0,
-        Attacked::No => 0,
-        Attacked::Refused(r) => of_refusal(r),
+        Ok(true) => 0,
+        Ok(false) => 0,
+        Err(r) => of_refusal(r),
     }
 }
 
@@ -153,25 +151,25 @@ fn of_listed(l: Listed) -> u64 {
 fn of_limited(b: RetractableBoard) -> u64 {
     let l = limited::is_limited_in_retractions(b);
     match l {
-        Limited::Yes => 0,
-        Limited::No => 0,
-        Limited::Refused(r) => of_refusal(r),
+        Ok(true) => 0,
+        Ok(false) => 0,
+        Err(r) => of_refusal(r),
     }
 }
 
 fn of_count(b: RetractableBoard) -> u64 {
     let c = strict::strict_count(b);
     match c {
-        Counted::Count(_) => 0,
-        Counted::Refused(r) => of_refusal(r),
+        Ok(_) => 0,
+        Err(r) => of_refusal(r),
     }
 }
 
 fn of_last_move(b: RetractableBoard) -> u64 {
     let l = strict::last_move(b);
     match l {
-        LastMove::Exists => 0,
-        LastMove::NoLastMove => 0,
-        LastMove::Refused(r) => of_refusal(r),
+        Ok(true) => 0,
+        Ok(false) => 0,
+        Err(r) => of_refusal(r),
     }
 }

@@ -19,19 +19,15 @@ use Rattle.board.specs.declared.Boarded.{Boarded}
 use Rattle.board.specs.Gate.{gate_of, board_tests}
 use Rattle.board.specs.Said.{Boards}
 use Rattle.history.specs.declared.History.{History}
-use Rattle.history.specs.declared.Told.{Told}
-use Rattle.history.specs.declared.Told.TheVariants.{Yes, No}
 use Rattle.history.specs.declared.Why.{Why}
 use Rattle.history.specs.declared.Why.TheVariants.{Board, Depth}
-use Rattle.history.specs.declared.Answer.{Answer}
-use Rattle.history.specs.declared.Answer.TheVariants.{Past, NoPast, Refused as notAnswered}
 use Rattle.history.specs.Histories.{NotAfter, FirstHistory, history_of, plies_of, Tells, why_number, number_for, Answers}
 use Rattle.squares.proofs.Testing.{both, left, right, cases}
 use Rattle.refusal.proofs.Saying.{some_number, number_low, number_one, verdict_one}
 use Rattle.refusal.proofs.Tested.{beside_refused}
 use Rattle.board.proofs.Passing.{gate_number}
 use Rattle.board.proofs.Numbers.{gate_refuses, gate_passes, passed_gate}
-use Rattle.std.specs.Prelude.{Err}
+use Rattle.std.specs.Prelude.{Err, Some, Option, None, Ok, Result}
 
 pub some_why : (w : Why) → eqb (why_number w) 0 ≡ false
 some_why (Board r) = some_number r
@@ -62,25 +58,25 @@ module _ (b : RetractableBoard) (n : ℕ) where
       go true false p q z = absurd (omega arith)
       go false y p q z = absurd (false≢true (sym p ∙ eq-eqb (first_failing (board_tests b)) 0 z))
 
-  refused : (w : Why) → why_number w ≡ number_for b n → Answers b n (notAnswered w)
+  refused : (w : Why) → why_number w ≡ number_for b n → Answers b n (Err w)
   refused w e = record { number = e; answer = λ z. absurd (never_zero w (e ∙ z)) }
 
-  pub told_refused : (why : Refusal) → gate_of b ≡ Err why → Answers b n (notAnswered (Board why))
+  pub told_refused : (why : Refusal) → gate_of b ≡ Err why → Answers b n (Err (Board why))
   told_refused why h =
       let e = gate_refuses b (gate_of b) refl why h in
       refused (Board why) (e ∙ beside_refused (board_tests b) (cond (leb 1 n and leb n 4) 0 19) (first_failing (board_tests b)) why e)
 
-  pub told_depth : gate_of b ≡ nothing_refused → ((1 ≤ n) × (n ≤ 4) → ⊥) → Answers b n (notAnswered Depth)
+  pub told_depth : gate_of b ≡ nothing_refused → ((1 ≤ n) × (n ≤ 4) → ⊥) → Answers b n (Err Depth)
   told_depth h f = refused Depth (go (cases (leb 1 n and leb n 4)))
     where
       go : ((leb 1 n and leb n 4) ≡ true) ⊎ ((leb 1 n and leb n 4) ≡ false) → 19 ≡ number_for b n
       go (inl e) = absurd (f (leb-true 1 n (left _ _ e), leb-true n 4 (right _ _ e)))
       go (inr e) = sym (at_depth h ∙ rw e)
 
-  pub told_yes : gate_of b ≡ nothing_refused → 1 ≤ n → n ≤ 4 → {t : Told} {g : History} → Tells n b t → t ≡ Yes g → Answers b n (Past g)
+  pub told_yes : gate_of b ≡ nothing_refused → 1 ≤ n → n ≤ 4 → {t : Option History} {g : History} → Tells n b t → t ≡ Some g → Answers b n (Ok (Some g))
   told_yes h l m s e = record { number = sym (passing h l m); answer = λ _. subst (Tells n b) e s }
 
-  pub told_no : gate_of b ≡ nothing_refused → 1 ≤ n → n ≤ 4 → {t : Told} → Tells n b t → t ≡ No → Answers b n NoPast
+  pub told_no : gate_of b ≡ nothing_refused → 1 ≤ n → n ≤ 4 → {t : Option History} → Tells n b t → t ≡ None → Answers b n (Ok None)
   told_no h l m s e = record { number = sym (passing h l m); answer = λ _. subst (Tells n b) e s }
 
 -- two histories, neither after the other, are one
@@ -111,7 +107,7 @@ plies_back (a ∷ b ∷ c ∷ []) h = refl
 plies_back (a ∷ b ∷ c ∷ d ∷ []) h = refl
 plies_back (a ∷ b ∷ c ∷ d ∷ e ∷ l) h = absurd (omega arith)
 
-pub plies_first : (b : RetractableBoard) (n : ℕ) (h : History) → Answers b n (Past h) → FirstHistory n b (take n (plies_of h))
+pub plies_first : (b : RetractableBoard) (n : ℕ) (h : History) → Answers b n (Ok (Some h)) → FirstHistory n b (take n (plies_of h))
 plies_first b n h x =
     let t = x.answer (sym x.number) in
     let m : n ≤ 4 = (passed b n (sym x.number)).2 in
@@ -127,16 +123,16 @@ why_one Depth (Board q) h = absurd (omega (arith, number_low q))
 why_one Depth Depth h = refl
 
 -- any two answers agree
-pub one_answer : (b : RetractableBoard) (n : ℕ) (r s : Answer) → Answers b n r → Answers b n s → r ≡ s
-one_answer b n (Past g) (Past h) x y =
+pub one_answer : (b : RetractableBoard) (n : ℕ) (r s : Result (Option History) Why) → Answers b n r → Answers b n s → r ≡ s
+one_answer b n (Ok (Some g)) (Ok (Some h)) x y =
     let u = x.answer (sym x.number) in
     let v = y.answer (sym y.number) in
-    ap Past (u.2 ∙ ap history_of (one_first n b u.0 v.0 u.1 v.1) ∙ sym v.2)
-one_answer b n (Past g) NoPast x y = let u = x.answer (sym x.number) in absurd (y.answer (sym y.number) u.0 u.1.long u.1.chain)
-one_answer b n NoPast (Past h) x y = let v = y.answer (sym y.number) in absurd (x.answer (sym x.number) v.0 v.1.long v.1.chain)
-one_answer b n NoPast NoPast x y = refl
-one_answer b n (Past g) (notAnswered w) x y = absurd (never_zero w (y.number ∙ sym x.number))
-one_answer b n NoPast (notAnswered w) x y = absurd (never_zero w (y.number ∙ sym x.number))
-one_answer b n (notAnswered w) (Past h) x y = absurd (never_zero w (x.number ∙ sym y.number))
-one_answer b n (notAnswered w) NoPast x y = absurd (never_zero w (x.number ∙ sym y.number))
-one_answer b n (notAnswered w) (notAnswered v) x y = ap notAnswered (why_one w v (x.number ∙ sym y.number))
+    ap Ok (Some (u.2 ∙ ap history_of (one_first n b u.0 v.0 u.1 v.1) ∙ sym v.2))
+one_answer b n (Ok (Some g)) (Ok None) x y = let u = x.answer (sym x.number) in absurd (y.answer (sym y.number) u.0 u.1.long u.1.chain)
+one_answer b n (Ok None) (Ok (Some h)) x y = let v = y.answer (sym y.number) in absurd (x.answer (sym x.number) v.0 v.1.long v.1.chain)
+one_answer b n (Ok None) (Ok None) x y = refl
+one_answer b n (Ok (Some g)) (Err w) x y = absurd (never_zero w (y.number ∙ sym x.number))
+one_answer b n (Ok None) (Err w) x y = absurd (never_zero w (y.number ∙ sym x.number))
+one_answer b n (Err w) (Ok (Some h)) x y = absurd (never_zero w (x.number ∙ sym y.number))
+one_answer b n (Err w) (Ok None) x y = absurd (never_zero w (x.number ∙ sym y.number))
+one_answer b n (Err w) (Err v) x y = ap Err (why_one w v (x.number ∙ sym y.number))

@@ -14,23 +14,20 @@ use Rattle.board.specs.declared.RetractableBoard.{RetractableBoard}
 use Rattle.board.specs.Gate.{gate_of}
 use Rattle.board.specs.Moving.{unmade_on}
 use Rattle.strict.specs.Demand.{Past}
-use Rattle.strict.specs.declared.Found.{Found}
-use Rattle.strict.specs.declared.Found.TheVariants.{At, NoMore, Refused as notFound}
 use Rattle.strict.specs.declared.Placed.{Placed}
 use Rattle.strict.specs.Onward.{FirstFrom, NoneFrom, FoundFrom, Finds}
 use Rattle.chains.specs.Chains.{Chain}
 use Rattle.history.specs.declared.History.{History}
-use Rattle.history.specs.declared.Told.{Told}
-use Rattle.history.specs.declared.Told.TheVariants.{Yes, No}
 use Rattle.history.specs.Histories.{NotAfter, NoHistory, after_move, history_of, Tells}
 use Rattle.history.specs.inner.Searching.{NoneBelow}
 use Rattle.squares.proofs.Testing.{order}
 use Rattle.strict.proofs.Onward.{within, one_place}
 use Rattle.chains.proofs.Boards.{chain_on, past_gate, past_turn}
 use Rattle.refusal.specs.Refusals.{nothing_refused}
+use Rattle.std.specs.Prelude.{Result, Option, Ok, Some, None, Err}
 
 -- no ply: the history of no moves
-pub told_none : (b : RetractableBoard) {h : History} {n : ℕ} → n ≡ 0 → h ≡ history_of [] → Tells n b (Yes h)
+pub told_none : (b : RetractableBoard) {h : History} {n : ℕ} → n ≡ 0 → h ≡ history_of [] → Tells n b (Some h)
 told_none b e q = ([], record { long = sym e; chain = tt; least = λ m l c. tt }, q)
 
 pub none_below : (n : ℕ) (b : RetractableBoard) → NoneBelow n b 0
@@ -79,7 +76,7 @@ module _ (b : RetractableBoard) (h : gate_of b ≡ nothing_refused) (n i : ℕ) 
         equal : {x y : ℕ} → x ≤ y → y < x + 1 → y ≡ x
         equal a b = omega arith
 
-    pub found_first : {g : History} → Tells (n - 1) (unmade_on b q) (Yes g) → Tells n b (Yes (after_move q g))
+    pub found_first : {g : History} → Tells (n - 1) (unmade_on b q) (Some g) → Tells n b (Some (after_move q g))
     found_first t = (
       q ∷ t.0,
       record {
@@ -104,18 +101,18 @@ module _ (b : RetractableBoard) (h : gate_of b ≡ nothing_refused) (n i : ℕ) 
                 inr (s, t.1.least l (less e) (before_it l (subst (λ (z : ChessRetraction). Chain (z ∷ l) b) (sym s) c)))
 
 -- what a step through the strict list found
-module _ (b : RetractableBoard) (i : ℕ) {r : Found} (f : Finds b i r) (h : gate_of b ≡ nothing_refused) where
-  pub found_is : {x : Placed} → r ≡ At x → (x.place ≡ place x.retraction) × FirstFrom b i x.retraction
+module _ (b : RetractableBoard) (i : ℕ) {r : Result (Option Placed) Refusal} (f : Finds b i r) (h : gate_of b ≡ nothing_refused) where
+  pub found_is : {x : Placed} → r ≡ Ok (Some x) → (x.place ≡ place x.retraction) × FirstFrom b i x.retraction
   found_is e = subst (FoundFrom b i) e (f.found h)
 
-  pub ended : r ≡ NoMore → NoneFrom b i
+  pub ended : r ≡ (Ok None) → NoneFrom b i
   ended e = subst (FoundFrom b i) e (f.found h)
 
-  pub never_refused : {why : Refusal} → r ≡ notFound why → ⊥
+  pub never_refused : {why : Refusal} → r ≡ Err why → ⊥
   never_refused e = subst (FoundFrom b i) e (f.found h)
 
   -- the next look starts behind the place found
-  pub place_on : {x : Placed} → r ≡ At x → (i ≤ x.place) × (x.place + 1 ≤ 49152)
+  pub place_on : {x : Placed} → r ≡ Ok (Some x) → (i ≤ x.place) × (x.place + 1 ≤ 49152)
   place_on e = let z = found_is e in (at_least z.0 z.1.on, at_most z.0 (within b h _ z.1.past))
     where
       at_least : {p q : ℕ} → p ≡ q → i ≤ q → i ≤ p
@@ -134,13 +131,13 @@ asks_earlier b h r p t q = (
 
 -- what this ply tells by what the other colour's told
 module _ (b : RetractableBoard) (h : gate_of b ≡ nothing_refused) (n i : ℕ) (some : (n ≡ 0) → ⊥) (none : NoneBelow n b i) (x : Placed)
-    (f : (x.place ≡ place x.retraction) × FirstFrom b i x.retraction) {e : RetractableBoard} (q : e ≡ unmade_on b x.retraction) {t : Told} (told : Tells (n - 1) e t) where
-  pub yes_with : {g z : History} → t ≡ Yes g → z ≡ after_move x.retraction g → Tells n b (Yes z)
+    (f : (x.place ≡ place x.retraction) × FirstFrom b i x.retraction) {e : RetractableBoard} (q : e ≡ unmade_on b x.retraction) {t : Option History} (told : Tells (n - 1) e t) where
+  pub yes_with : {g z : History} → t ≡ Some g → z ≡ after_move x.retraction g → Tells n b (Some z)
   yes_with {g} y w =
-      subst (λ (a : History). Tells n b (Yes a)) (sym w)
-      (found_first b h n i some none x.retraction f.1 (subst (λ (a : RetractableBoard). Tells (n - 1) a (Yes g)) q (subst (Tells (n - 1) e) y told)))
+      subst (λ (a : History). Tells n b (Some a)) (sym w)
+      (found_first b h n i some none x.retraction f.1 (subst (λ (a : RetractableBoard). Tells (n - 1) a (Some g)) q (subst (Tells (n - 1) e) y told)))
 
-  pub no_with : t ≡ No → NoneBelow n b (x.place + 1)
+  pub no_with : t ≡ None → NoneBelow n b (x.place + 1)
   no_with y =
       subst (λ (a : ℕ). NoneBelow n b (a + 1)) (sym f.0)
       (passed_over b h n i some none x.retraction f.1 (subst (λ (a : RetractableBoard). NoHistory (n - 1) a) q (subst (Tells (n - 1) e) y told)))

@@ -1,5 +1,5 @@
 -- Histories of a board: which chain of so many plies is the first, and what is answered.
-use Rattle.std.specs.Prelude.{◌≡◌, ◌⊎◌, false, cond, List, [], ◌∷◌, ℕ, ◌<◌, eqb, leb, length}
+use Rattle.std.specs.Prelude.{◌≡◌, ◌⊎◌, false, cond, List, [], ◌∷◌, ℕ, ◌<◌, eqb, leb, length, Option, Some, None, Result, Ok, Err}
 use Rattle.squares.specs.Tests.{◌and◌}
 use Rattle.laws.specs.declared.ChessRetraction.{ChessRetraction}
 use Rattle.laws.specs.StrictLists.{place}
@@ -9,12 +9,8 @@ use Rattle.board.specs.declared.RetractableBoard.{RetractableBoard}
 use Rattle.board.specs.Gate.{board_tests}
 use Rattle.chains.specs.Chains.{Chain}
 use Rattle.history.specs.declared.History.{History}
-use Rattle.history.specs.declared.Told.{Told}
-use Rattle.history.specs.declared.Told.TheVariants.{Yes, No}
 use Rattle.history.specs.declared.Why.{Why}
 use Rattle.history.specs.declared.Why.TheVariants.{Board, Depth}
-use Rattle.history.specs.declared.Answer.{Answer}
-use Rattle.history.specs.declared.Answer.TheVariants.{Past, NoPast, Refused as notAnswered}
 
 -- "the latest ply compared first, each ply in strict order": l is m or comes before it
 abbrev pub NotAfter : List ChessRetraction → List ChessRetraction → Type 0
@@ -46,9 +42,9 @@ abbrev pub plies_of : History → List ChessRetraction
 plies_of h = h.first ∷ h.second ∷ h.third ∷ h.fourth ∷ []
 
 -- "yes, with the first history .., exactly when" there is one of n plies; "otherwise no"
-abbrev pub Tells : ℕ → RetractableBoard → Told → Type 0
-Tells n b (Yes h) = (l : List ChessRetraction) × FirstHistory n b l × (h ≡ history_of l)
-Tells n b No = NoHistory n b
+abbrev pub Tells : ℕ → RetractableBoard → Option History → Type 0
+Tells n b (Some h) = (l : List ChessRetraction) × FirstHistory n b l × (h ≡ history_of l)
+Tells n b None = NoHistory n b
 
 abbrev pub why_number : Why → ℕ
 why_number (Board r) = number_of r
@@ -59,16 +55,16 @@ abbrev pub number_for : RetractableBoard → ℕ → ℕ
 number_for b n = cond (eqb (first_failing (board_tests b)) 0) (cond (leb 1 n and leb n 4) 0 (why_number Depth)) (first_failing (board_tests b))
 
 -- 0 where nothing is refused
-abbrev pub answer_number : Answer → ℕ
-answer_number (Past h) = 0
-answer_number NoPast = 0
-answer_number (notAnswered w) = why_number w
+abbrev pub answer_number : Result (Option History) Why → ℕ
+answer_number (Ok (Some h)) = 0
+answer_number (Ok None) = 0
+answer_number (Err w) = why_number w
 
-abbrev pub Says : ℕ → RetractableBoard → Answer → Type 0
-Says n b (Past h) = Tells n b (Yes h)
-Says n b NoPast = Tells n b No
-Says n b (notAnswered w) = ⊥
+abbrev pub Says : ℕ → RetractableBoard → Result (Option History) Why → Type 0
+Says n b (Ok (Some h)) = Tells n b (Some h)
+Says n b (Ok None) = Tells n b None
+Says n b (Err w) = ⊥
 
-pub record Answers (b : RetractableBoard) (n : ℕ) (r : Answer) : Type 0 where
+pub record Answers (b : RetractableBoard) (n : ℕ) (r : Result (Option History) Why) : Type 0 where
   pub number : answer_number r ≡ number_for b n
   pub answer : number_for b n ≡ 0 → Says n b r

@@ -2,31 +2,31 @@
 ghost use Rattle.geometry.specs.Lines.{IsBetween};
 ghost use Rattle.history.specs.Histories.{Answers};
 
-use super::{Answer, Told, Why};
+use super::Why;
 use board::RetractableBoard;
 
 // The fewest plies that are asked for.
 const LEAST: u8 = 1;
 
 // Refusals 1 to 7, then 19, then the ply of the side that has moved last.
-pub fn history_of(t: &[u64; 4096], b: RetractableBoard, depth: u8) -> Answer
+pub fn history_of(t: &[u64; 4096], b: RetractableBoard, depth: u8) -> Result<Option<History>, Why>
     requires { IsBetween t.now }
     ensures { Answers b depth result }
 {
     let v = board::inner::gate(t, b);
     match v {
-        Err(why) => Answer::Refused(Why::Board(why)),
+        Err(why) => Err(Why::Board(why)),
         Ok(()) => {
             if depth < LEAST {
-                return Answer::Refused(Why::Depth);
+                return Err(Why::Depth);
             }
             if depth > 4 {
-                return Answer::Refused(Why::Depth);
+                return Err(Why::Depth);
             }
             let h = super::plies::last_ply(t, b, depth);
             match h {
-                Told::Yes(l) => Answer::Past(l),
-                Told::No => Answer::NoPast,
+                Some(l) => Ok(Some(l)),
+                None => Ok(None),
             }
         }
     }

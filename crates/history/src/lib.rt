@@ -21,25 +21,11 @@ pub struct History {
     pub fourth: ChessRetraction,
 }
 
-// Yes with the first history, or no.
-#[derive(Drop)]
-pub enum Told {
-    Yes(History),
-    No,
-}
-
 // Why nothing is told: 1 to 7 of a board, 19.
 #[derive(Drop)]
 pub enum Why {
     Board(Refusal),
     Depth,
-}
-
-#[derive(Drop)]
-pub enum Answer {
-    Past(History),
-    NoPast,
-    Refused(Why),
 }
 
 // The number of a refusal.
@@ -53,7 +39,7 @@ pub fn number(why: Why) -> u8
 }
 
 // Whether a board has a past of so many plies, and the first one: refusals 1 to 7, then 19.
-pub fn history_of(b: RetractableBoard, depth: u8) -> Answer
+pub fn history_of(b: RetractableBoard, depth: u8) -> Result<Option<History>, Why>
     ensures { Answers b depth result }
 {
     let t = tables::between_table();

@@ -8,10 +8,9 @@ ghost use Rattle.board.specs.Moving.{unmade_on};
 ghost use Rattle.strict.specs.Demand.{Past};
 ghost use Rattle.history.specs.Histories.{history_of, after_move, no_move, Tells};
 
-use super::{History, Told};
+use super::History;
 use board::RetractableBoard;
 use laws::{ChessRetraction, Color};
-use strict::Found;
 
 fn no_move() -> ChessRetraction
     ensures { result ≡ no_move }
@@ -62,33 +61,33 @@ fn earlier(t: &[u64; 4096], b: RetractableBoard, r: ChessRetraction) -> Retracta
 
 // White has moved last: the first of its strict retractions before which Black has one ply less. An accepted board is refused no step.
 #[cycle(black_ply_white_ply)]
-fn white_ply(t: &[u64; 4096], b: RetractableBoard, depth: u8) -> Told
+fn white_ply(t: &[u64; 4096], b: RetractableBoard, depth: u8) -> Option<History>
     requires { IsBetween t.now × (gate_of b ≡ nothing_refused) × (b.turn ≡ Black) }
     ensures { Tells depth b result }
 {
     if depth == 0 {
-        return Told::Yes(no_plies());
+        return Some(no_plies());
     }
     let mut at: usize = 0;
     loop {
         let s = strict::inner::strict_from(t, b, at);
         match s {
-            Found::At(x) => {
+            Ok(Some(x)) => {
                 let r = x.retraction;
                 let h = black_ply(t, earlier(t, b, r), depth - 1);
                 match h {
-                    Told::Yes(l) => {
-                        return Told::Yes(after_move(r, l));
+                    Some(l) => {
+                        return Some(after_move(r, l));
                     }
-                    Told::No => {}
+                    None => {}
                 }
                 at = x.place + 1;
             }
-            Found::NoMore => {
-                return Told::No;
+            Ok(None) => {
+                return None;
             }
-            Found::Refused(_) => {
-                return Told::No;
+            Err(_) => {
+                return None;
             }
         }
     }
@@ -96,40 +95,40 @@ fn white_ply(t: &[u64; 4096], b: RetractableBoard, depth: u8) -> Told
 
 // Black has moved last.
 #[cycle(black_ply_white_ply)]
-fn black_ply(t: &[u64; 4096], b: RetractableBoard, depth: u8) -> Told
+fn black_ply(t: &[u64; 4096], b: RetractableBoard, depth: u8) -> Option<History>
     requires { IsBetween t.now × (gate_of b ≡ nothing_refused) × (b.turn ≡ White) }
     ensures { Tells depth b result }
 {
     if depth == 0 {
-        return Told::Yes(no_plies());
+        return Some(no_plies());
     }
     let mut at: usize = 0;
     loop {
         let s = strict::inner::strict_from(t, b, at);
         match s {
-            Found::At(x) => {
+            Ok(Some(x)) => {
                 let r = x.retraction;
                 let h = white_ply(t, earlier(t, b, r), depth - 1);
                 match h {
-                    Told::Yes(l) => {
-                        return Told::Yes(after_move(r, l));
+                    Some(l) => {
+                        return Some(after_move(r, l));
                     }
-                    Told::No => {}
+                    None => {}
                 }
                 at = x.place + 1;
             }
-            Found::NoMore => {
-                return Told::No;
+            Ok(None) => {
+                return None;
             }
-            Found::Refused(_) => {
-                return Told::No;
+            Err(_) => {
+                return None;
             }
         }
     }
 }
 
 // The ply of the side that has moved last.
-pub(super) fn last_ply(t: &[u64; 4096], b: RetractableBoard, depth: u8) -> Told
+pub(super) fn last_ply(t: &[u64; 4096], b: RetractableBoard, depth: u8) -> Option<History>
     requires { IsBetween t.now × (gate_of b ≡ nothing_refused) }
     ensures { Tells depth b result }
 {

@@ -15,8 +15,6 @@ use Rattle.output.specs.Appending.{Adds}
 use Rattle.reply.specs.Replies.{newline, refused_text, Shows}
 use Rattle.history.specs.declared.History.{History}
 use Rattle.history.specs.declared.Why.{Why}
-use Rattle.history.specs.declared.Answer.{Answer}
-use Rattle.history.specs.declared.Answer.TheVariants.{Past, NoPast, Refused as notAnswered}
 use Rattle.history.specs.Histories.{plies_of, why_number, Answers}
 use Rattle.history_reply.specs.Replies.{ply_row, plies_text, none_text, history_text}
 use Rattle.refusal.proofs.Writing.{Written}
@@ -24,6 +22,7 @@ use Rattle.output.proofs.Added.{added_length}
 use Rattle.output.proofs.Adding.{adds_then}
 use Rattle.reply.proofs.Shown.{shown, written_added, text_short}
 use Rattle.history.proofs.Answering.{passed}
+use Rattle.std.specs.Prelude.{Result, Option, Ok, Some, None, Err}
 
 -- a ply has nine bytes, so that one which may be there has at most nine
 row_long : (r : ChessRetraction) → length (ply_row r) ≡ 9
@@ -120,19 +119,19 @@ module _ (b : RetractableBoard) (o o₁ : List ℕ) (m : ℕ) (s : Shows (text_o
       let all = adds_then o o₁ o₂ (text_on b ++ newline) t 0 m n (omega (arith, e, s.size, room, h)) text_added a in
       shown o o₂ (text_on b ++ newline ++ t) n all (omega (arith, e, s.size, room, h))
 
-  module _ (d n : ℕ) (o₂ : List ℕ) (told : Answer) where
-    pub past_shown : (h : History) → told ≡ Past h → 1 ≤ d → d ≤ 4 → Adds o₁ m (plies_text (take d (plies_of h))) n o₂ → Shows (history_text b d told) n o o₂
+  module _ (d n : ℕ) (o₂ : List ℕ) (told : Result (Option History) Why) where
+    pub past_shown : (h : History) → told ≡ Ok (Some h) → 1 ≤ d → d ≤ 4 → Adds o₁ m (plies_text (take d (plies_of h))) n o₂ → Shows (history_text b d told) n o o₂
     past_shown h e i j a =
-        subst (λ (r : Answer). Shows (history_text b d r) n o o₂) (sym e) (under (plies_text (take d (plies_of h))) (plies_short d h i j) n o₂ a)
+        subst (λ (r : Result (Option History) Why). Shows (history_text b d r) n o o₂) (sym e) (under (plies_text (take d (plies_of h))) (plies_short d h i j) n o₂ a)
 
-    pub none_shown : told ≡ NoPast → Adds o₁ m none_text n o₂ → Shows (history_text b d told) n o o₂
-    none_shown e a = subst (λ (r : Answer). Shows (history_text b d r) n o o₂) (sym e) (under none_text (omega arith) n o₂ a)
+    pub none_shown : told ≡ (Ok None) → Adds o₁ m none_text n o₂ → Shows (history_text b d told) n o o₂
+    none_shown e a = subst (λ (r : Result (Option History) Why). Shows (history_text b d r) n o o₂) (sym e) (under none_text (omega arith) n o₂ a)
 
 -- a history is told of a depth from 1 to 4
-pub past_depth : (b : RetractableBoard) (n : ℕ) (told : Answer) (h : History) → Answers b n told → told ≡ Past h → (1 ≤ n) × (n ≤ 4)
+pub past_depth : (b : RetractableBoard) (n : ℕ) (told : Result (Option History) Why) (h : History) → Answers b n told → told ≡ Ok (Some h) → (1 ≤ n) × (n ≤ 4)
 past_depth b n told h x e = let p = passed b n (sym (subst (Answers b n) e x).number) in (p.1, p.2)
 
-pub refused_shown : (b : RetractableBoard) (d n x : ℕ) (o out : List ℕ) (told : Answer) (why : Why) → told ≡ notAnswered why → x ≡ why_number why
+pub refused_shown : (b : RetractableBoard) (d n x : ℕ) (o out : List ℕ) (told : Result (Option History) Why) (why : Why) → told ≡ Err why → x ≡ why_number why
     → Shows (refused_text x) n o out → Shows (history_text b d told) n o out
 refused_shown b d n x o out told why e i s =
-    subst (λ (r : Answer). Shows (history_text b d r) n o out) (sym e) (subst (λ (z : ℕ). Shows (refused_text z) n o out) i s)
+    subst (λ (r : Result (Option History) Why). Shows (history_text b d r) n o out) (sym e) (subst (λ (z : ℕ). Shows (refused_text z) n o out) i s)

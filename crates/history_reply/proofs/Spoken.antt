@@ -22,8 +22,6 @@ use Rattle.rows.specs.Rows.{decimal_of}
 use Rattle.record_fields.specs.inner.Counting.{Counted, counted, uncounted}
 use Rattle.record_fields.specs.inner.Splitting.{Cut}
 use Rattle.reply.specs.Replies.{refused_text, Shows}
-use Rattle.history.specs.declared.Answer.{Answer}
-use Rattle.history.specs.declared.Answer.TheVariants.{Past, NoPast, Refused as notAnswered}
 use Rattle.history.specs.Histories.{number_for, Answers}
 use Rattle.history_reply.specs.Replies.{history_text, line_text, AnswersText, Replies, asked, unasked}
 use Rattle.squares.proofs.Testing.{order, and_false}
@@ -33,7 +31,9 @@ use Rattle.record_fields.proofs.Decimals.{dec_same}
 use Rattle.record_fields.proofs.Splits.{Free, free_decimal, not_free, cut_one, free_part, cut_part, free_whole}
 use Rattle.reply.proofs.Spoken.{shows_one}
 use Rattle.history.proofs.Answering.{passed, one_answer}
-use Rattle.std.specs.Prelude.{Err}
+use Rattle.std.specs.Prelude.{Err, Ok, None, Result, Option, Some}
+use Rattle.history.specs.declared.History.{History}
+use Rattle.history.specs.declared.Why.{Why}
 
 -- a text that is read is answered
 module _ (x : List ℕ) (r : Boarded) (a : Reads A x r) (n : ℕ) {k : ℕ} {o out : List ℕ} where
@@ -41,12 +41,12 @@ module _ (x : List ℕ) (r : Boarded) (a : Reads A x r) (n : ℕ) {k : ℕ} {o o
   text_refused why e s = record {
     read = r;
     reads = a;
-    told = NoPast;
+    told = (Ok None);
     tells = λ z. absurd (false≢true (sym (some_number why) ∙ eq-eqb (number_of why) 0 (sym (ap verdict_number e) ∙ z)));
     shows = rw (e, some_number why) s;
   }
 
-  pub text_told : r.verdict ≡ nothing_refused → (t : Answer) → Answers r.board n t → Shows (history_text r.board n t) k o out → AnswersText x n k o out
+  pub text_told : r.verdict ≡ nothing_refused → (t : Result (Option History) Why) → Answers r.board n t → Shows (history_text r.board n t) k o out → AnswersText x n k o out
   text_told e t q s = record { read = r; reads = a; told = t; tells = λ _. q; shows = rw e s }
 
 -- two depths that are the same or both too great are answered alike
@@ -57,13 +57,13 @@ module _ (n m : ℕ) (same : n ≤ 4 → m ≡ n) (deep : 4 < n → 4 < m) where
   both_deep : (b : RetractableBoard) → 4 < n → number_for b m ≡ number_for b n
   both_deep b h = rw (too_deep b n h, too_deep b m (deep h))
 
-  alike : (b : RetractableBoard) (t : Answer) → Answers b m t → Answers b n t × (history_text b m t ≡ history_text b n t)
+  alike : (b : RetractableBoard) (t : Result (Option History) Why) → Answers b m t → Answers b n t × (history_text b m t ≡ history_text b n t)
   alike b t x = by (order 4 n)
     where
-      far : 4 < n → (r : Answer) → Answers b m r → Answers b n r × (history_text b m r ≡ history_text b n r)
-      far h (Past g) y = absurd (omega (arith, deep h, (passed b m (sym y.number)).2))
-      far h NoPast y = absurd (omega (arith, deep h, (passed b m (sym y.number)).2))
-      far h (notAnswered w) y = (record { number = y.number ∙ both_deep b h; answer = λ z. y.answer (both_deep b h ∙ z) }, refl)
+      far : 4 < n → (r : Result (Option History) Why) → Answers b m r → Answers b n r × (history_text b m r ≡ history_text b n r)
+      far h (Ok (Some g)) y = absurd (omega (arith, deep h, (passed b m (sym y.number)).2))
+      far h (Ok None) y = absurd (omega (arith, deep h, (passed b m (sym y.number)).2))
+      far h (Err w) y = (record { number = y.number ∙ both_deep b h; answer = λ z. y.answer (both_deep b h ∙ z) }, refl)
 
       by : (4 < n) ⊎ (n ≤ 4) → Answers b n t × (history_text b m t ≡ history_text b n t)
       by (inl h) = far h t x

@@ -8,7 +8,7 @@ ghost use Rattle.history.specs.Histories.{plies_of, Answers};
 ghost use Rattle.history_reply.specs.Replies.{ply_row, plies_text, history_text, AnswersText, Replies};
 
 use board::RetractableBoard;
-use history::{Answer, History};
+use history::History;
 use laws::{ChessRetraction, Edition};
 use position_text::Copied;
 use refusal::Refusal;
@@ -64,20 +64,20 @@ fn put_text(b: RetractableBoard, out: &mut [u8; 196608]) -> usize
 }
 
 // What is told of an accepted board, under its text.
-fn put_history(b: RetractableBoard, depth: u8, told: Answer, out: &mut [u8; 196608]) -> usize
+fn put_history(b: RetractableBoard, depth: u8, told: Result<Option<History>, Why>, out: &mut [u8; 196608]) -> usize
     requires { Answers b depth told }
     ensures { Shows (history_text b depth told) result out.old out.new }
 {
     match told {
-        Answer::Past(h) => {
+        Ok(Some(h)) => {
             let n = put_text(b, out);
             put_plies(out, n, h, depth)
         }
-        Answer::NoPast => {
+        Ok(None) => {
             let n = put_text(b, out);
             output::put_bytes(out, n, b"none\n").used(n)
         }
-        Answer::Refused(why) => reply::inner::put_number(history::number(why), out),
+        Err(why) => reply::inner::put_number(history::number(why), out),
     }
 }
 

@@ -10,21 +10,21 @@ use Rattle.refusal.specs.declared.Refusal.TheVariants.{Full}
 use Rattle.refusal.specs.Said.{◌else◌, first_failing, Said, number_said, told, behind}
 use Rattle.board.specs.declared.RetractableBoard.{RetractableBoard}
 use Rattle.board.specs.Gate.{board_tests}
-use Rattle.limited.specs.declared.Limited.{Limited}
-use Rattle.limited.specs.declared.Limited.TheVariants.{Yes, No, Refused}
 use Rattle.limited.specs.Limiting.{limited_says, names_square, flipped, pawnless_on, nothing_on, side_of, sides_of, limited_from, limited_of}
 use Rattle.squares.proofs.Testing.{agree, agree_eq}
 use Rattle.laws.proofs.Cases.{by_cases}
 use Rattle.refusal.proofs.Saying.{number_one}
 use Rattle.refusal.proofs.Writing.{no_value, no_both}
 use Rattle.board.proofs.Numbers.{above_seven}
+use Rattle.std.specs.Prelude.{Result, Ok, true, false, Err}
+use Rattle.refusal.specs.declared.Refusal.{Refusal}
 
 -- what is said behind 1 to 7: at once; the first list fits, and has nothing; the second fits, and has nothing
 abbrev said_by : Bool → Bool → Bool → Bool → Bool → Said
 said_by at_once fits none fits' none' =
     cond at_once (told (1 ∷ [])) (behind ((fits else Full) ∷ []) (cond none (told (1 ∷ [])) (behind ((fits' else Full) ∷ []) (cond none' (told (1 ∷ [])) (told (0 ∷ []))))))
 
-module _ (b : RetractableBoard) (r : Limited) (h : limited_says r ≡ limited_of b) where
+module _ (b : RetractableBoard) (r : Result Bool Refusal) (h : limited_says r ≡ limited_of b) where
   abbrev accepted : Bool
   accepted = eqb (first_failing (board_tests b)) 0
 
@@ -51,16 +51,16 @@ module _ (b : RetractableBoard) (r : Limited) (h : limited_says r ≡ limited_of
       accepted at_once fits none fits' (nothing_on (flipped b)))
 
 -- what is said settles the answer
-limited_one : (r q : Limited) → limited_says r ≡ limited_says q → r ≡ q
-limited_one Yes Yes e = refl
-limited_one Yes No e = no_both e
-limited_one Yes (Refused w) e = no_value e
-limited_one No Yes e = no_both (sym e)
-limited_one No No e = refl
-limited_one No (Refused w) e = no_value e
-limited_one (Refused v) Yes e = no_value (sym e)
-limited_one (Refused v) No e = no_value (sym e)
-limited_one (Refused v) (Refused w) e = ap Refused (number_one v w (ap number_said e))
+limited_one : (r q : Result Bool Refusal) → limited_says r ≡ limited_says q → r ≡ q
+limited_one (Ok true) (Ok true) e = refl
+limited_one (Ok true) (Ok false) e = no_both e
+limited_one (Ok true) (Err w) e = no_value e
+limited_one (Ok false) (Ok true) e = no_both (sym e)
+limited_one (Ok false) (Ok false) e = refl
+limited_one (Ok false) (Err w) e = no_value e
+limited_one (Err v) (Ok true) e = no_value (sym e)
+limited_one (Err v) (Ok false) e = no_value (sym e)
+limited_one (Err v) (Err w) e = ap Err (number_one v w (ap number_said e))
 
-pub one_limited : (b : RetractableBoard) (r q : Limited) → limited_says r ≡ limited_of b → limited_says q ≡ limited_of b → r ≡ q
+pub one_limited : (b : RetractableBoard) (r q : Result Bool Refusal) → limited_says r ≡ limited_of b → limited_says q ≡ limited_of b → r ≡ q
 one_limited b r q x y = limited_one r q (x ∙ sym y)

@@ -1,5 +1,5 @@
 -- `is_limited_in_retractions` (retraction_gen.rs, 280 to 333).
-use Rattle.std.specs.Prelude.{Bool, true, false, not, cond, List, [], ◌∷◌, eqb}
+use Rattle.std.specs.Prelude.{Bool, true, false, not, cond, List, [], ◌∷◌, eqb, Result, Ok, Err}
 use Rattle.squares.specs.Tests.{◌or◌}
 use Rattle.geometry.specs.Colors.{opp}
 use Rattle.laws.specs.declared.EnPassantFlag.{EnPassantFlag}
@@ -12,14 +12,13 @@ use Rattle.retraction_list.specs.Entries.{holding}
 use Rattle.enumerate.specs.Lists.{all_but_pawns}
 use Rattle.retraction_gen.specs.Making.{view_on, masks_on, start_of, full_test}
 use Rattle.retraction_gen.specs.Cursors.{next_of}
-use Rattle.limited.specs.declared.Limited.{Limited}
-use Rattle.limited.specs.declared.Limited.TheVariants.{Yes, No, Refused}
+use Rattle.refusal.specs.declared.Refusal.{Refusal}
 
 -- `true` and `false` are 1 and 0
-abbrev pub limited_says : Limited → Said
-limited_says Yes = told (1 ∷ [])
-limited_says No = told (0 ∷ [])
-limited_says (Refused why) = refusal why
+abbrev pub limited_says : Result Bool Refusal → Said
+limited_says (Ok true) = told (1 ∷ [])
+limited_says (Ok false) = told (0 ∷ [])
+limited_says (Err why) = refusal why
 
 -- `if let EnPassantFlag::Some(_) = board.en_passant()` (285)
 abbrev pub names_square : EnPassantFlag → Bool

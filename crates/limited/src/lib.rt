@@ -11,14 +11,6 @@ ghost use Rattle.limited.specs.Limiting.{limited_says, names_square, flipped, si
 use board::RetractableBoard;
 use laws::EnPassantFlag;
 use refusal::Refusal;
-use retraction_gen::Next;
-
-#[derive(Drop)]
-pub enum Limited {
-    Yes,
-    No,
-    Refused(Refusal),
-}
 
 fn names_a_square(passant: EnPassantFlag) -> bool
     ensures { result ≡ names_square passant }
@@ -55,58 +47,47 @@ fn flip(b: RetractableBoard) -> RetractableBoard
 }
 
 // Whether the side that does not have the turn has no retraction but of pawns.
-fn side(t: &[u64; 4096], b: RetractableBoard) -> Limited
+fn side(t: &[u64; 4096], b: RetractableBoard) -> Result<bool, Refusal>
     requires { IsBetween t.now × Whole (view_on b) }
     ensures { limited_says result ≡ side_of b (told (0 ∷ [])) }
 {
     let v = retraction_gen::inner::seen(b);
     let list = enumerate::inner::all_but_pawns(t, v);
     if list.full {
-        return Limited::Refused(Refusal::Full);
+        return Err(Refusal::Full);
     }
     let masks = uncaptured::inner::candidates(board::inner::position_of(b));
     let g = retraction_gen::inner::started(list, masks);
-    let s = g.next();
-    let answer = s.next;
-    match answer {
-        Next::Retraction(_) => Limited::No,
-        Next::End => Limited::Yes,
-    }
+    Ok(g.next().next.is_none())
 }
 
 // The second list is built only where the first yields something.
-fn sides(t: &[u64; 4096], b: RetractableBoard) -> Limited
+fn sides(t: &[u64; 4096], b: RetractableBoard) -> Result<bool, Refusal>
     requires { IsBetween t.now × Whole (view_on b) }
     ensures { limited_says result ≡ sides_of b }
 {
-    let first = side(t, b);
-    match first {
-        Limited::Yes => Limited::Yes,
-        Limited::Refused(why) => Limited::Refused(why),
-        Limited::No => side(t, flip(b)),
+    if side(t, b)? {
+        return Ok(true);
     }
+    side(t, flip(b))
 }
 
 // A check or a named square answers before any list.
-fn limited_from(t: &[u64; 4096], b: RetractableBoard) -> Limited
+fn limited_from(t: &[u64; 4096], b: RetractableBoard) -> Result<bool, Refusal>
     requires { IsBetween t.now × Whole (view_on b) }
     ensures { limited_says result ≡ limited_from b }
 {
-    let passant = b.passant;
-    if (b.checkers != 0) | names_a_square(passant) {
-        return Limited::Yes;
+    if b.checkers != 0 || names_a_square(b.passant) {
+        return Ok(true);
     }
     sides(t, b)
 }
 
 // Refusals 1 to 7, then 8 for a list that this call builds.
-pub fn is_limited_in_retractions(b: RetractableBoard) -> Limited
+pub fn is_limited_in_retractions(b: RetractableBoard) -> Result<bool, Refusal>
     ensures { limited_says result ≡ limited_of b }
 {
     let t = tables::between_table();
-    let v = board::inner::gate(&t, b);
-    match v {
-        Err(why) => Limited::Refused(why),
-        Ok(()) => limited_from(&t, b),
-    }
+    board::inner::gate(&t, b)?;
+    limited_from(&t, b)
 }

@@ -10,7 +10,7 @@ use Rattle.refusal.specs.declared.Refusal.{Refusal}
 use Rattle.refusal.specs.declared.Refusal.TheVariants.{Men as men, Kings as kings, Pawn as pawn, Rights as rights, Passant as passant, Check as check, Stale as stale, Full as full, Source as source, Target as target, Held as held, Step as step, Room as room, Text as text}
 use Rattle.refusal.specs.Refusals.{number_of, verdict_number, unless, and_then, Verdict, nothing_refused}
 use Rattle.refusal.specs.Said.{Test, ◌else◌, first_failing, Said, refusal, behind}
-use Rattle.std.specs.Prelude.{Ok, Err}
+use Rattle.std.specs.Prelude.{Result, Ok, Err, IsErrAnd}
 
 -- a number of refusal is never 0
 pub some_number : (r : Refusal) → eqb (number_of r) 0 ≡ false
@@ -108,6 +108,11 @@ pub behind_by : (v : Verdict) (ts : List Test) (x : Said) → verdict_number v �
 unfolding behind
 behind_by (Ok _) ts x h = rw (← h)
 behind_by (Err r) ts x h = rw (← h, some_number r)
+
+-- a `?` hands a refusal on as it is
+pub handed_on : {T : Type 0} (r : Result T Refusal) (w : Refusal) → IsErrAnd r (λ e. e ≡ w) → r ≡ Err w
+handed_on (Ok _) w h = absurd h
+handed_on (Err e) w h = ap Err h
 
 -- a chain of verdicts that accepts
 pub never : (r : Refusal) → Err r ≡ nothing_refused → ⊥

@@ -5,13 +5,12 @@ use native.Mathlib.Omega.{arith}
 use Rattle.squares.specs.Squares.{flag}
 use Rattle.laws.specs.declared.ChessRetraction.{ChessRetraction}
 use Rattle.retraction_gen.specs.declared.RetractionGen.{RetractionGen}
-use Rattle.retraction_gen.specs.declared.Next.{Next}
-use Rattle.retraction_gen.specs.declared.Next.TheVariants.{Retraction, End}
 use Rattle.retraction_gen.specs.declared.Stepped.{Stepped}
 use Rattle.retraction_gen.specs.Cursors.{retraction_said, next_says, Answered, back, next_of, Steps}
 use Rattle.refusal.proofs.Writing.{no_value}
+use Rattle.std.specs.Prelude.{Option, Some, None}
 
-pub steps : (g h : RetractionGen) (a : Next) → next_of g ≡ back h (next_says a) → Steps g (record { cursor = h; next = a })
+pub steps : (g h : RetractionGen) (a : Option ChessRetraction) → next_of g ≡ back h (next_says a) → Steps g (record { cursor = h; next = a })
 steps g h a e = record { cursor = sym (ap (λ (x : Answered). x.cursor) e); answer = sym (ap (λ (x : Answered). x.said) e) }
 
 flag_one : (s t : Bool) → flag s ≡ flag t → s ≡ t
@@ -29,11 +28,11 @@ retraction_one r q e =
     λ i. record { source = s i; target = t i; uncaptured = u i; unpromotion = m i }
 
 -- what is said settles the answer
-pub next_one : (a b : Next) → next_says a ≡ next_says b → a ≡ b
-next_one (Retraction r) (Retraction q) e = ap Retraction (retraction_one r q e)
-next_one (Retraction r) End e = no_value e
-next_one End (Retraction q) e = no_value (sym e)
-next_one End End e = refl
+pub next_one : (a b : Option ChessRetraction) → next_says a ≡ next_says b → a ≡ b
+next_one (Some r) (Some q) e = ap Some (retraction_one r q e)
+next_one (Some r) None e = no_value e
+next_one None (Some q) e = no_value (sym e)
+next_one None None e = refl
 
 -- any two answers agree
 pub steps_one : (g : RetractionGen) (r q : Stepped) → Steps g r → Steps g q → r ≡ q

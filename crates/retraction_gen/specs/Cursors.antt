@@ -1,5 +1,5 @@
 -- The iterator (retraction_gen.rs, 340 to 385), one turn of `next` at a time. `targets_mask` is `!EMPTY` in all that is taken, so it is left out.
-use Rattle.std.specs.Prelude.{◌≡◌, Bool, true, false, not, cond, List, [], ◌∷◌, ℕ, zero, suc, ◌+◌, ◌-◌, ◌*◌, eqb, leb, ltb, length, get_or, set, take, drop}
+use Rattle.std.specs.Prelude.{◌≡◌, Bool, true, false, not, cond, List, [], ◌∷◌, ℕ, zero, suc, ◌+◌, ◌-◌, ◌*◌, eqb, leb, ltb, length, get_or, set, take, drop, Option, Some, None}
 use Rattle.squares.specs.Tests.{◌and◌, ◌or◌}
 use Rattle.squares.specs.Squares.{has, set_of, besides, flag}
 use Rattle.squares.specs.Members.{members, lowest_of}
@@ -13,8 +13,6 @@ use Rattle.retraction_gen.specs.declared.RetractionGen.{RetractionGen}
 use Rattle.retraction_gen.specs.declared.Turn.{Turn}
 use Rattle.retraction_gen.specs.declared.Turn.TheVariants.{Again, Found, Over}
 use Rattle.retraction_gen.specs.declared.Turned.{Turned}
-use Rattle.retraction_gen.specs.declared.Next.{Next}
-use Rattle.retraction_gen.specs.declared.Next.TheVariants.{Retraction, End}
 use Rattle.retraction_gen.specs.declared.Stepped.{Stepped}
 
 abbrev pub with_entries : RetractionGen → List SourceAndTargets → RetractionGen
@@ -37,9 +35,9 @@ retraction_said r = told (r.source ∷ r.target ∷ r.uncaptured ∷ flag r.unpr
 abbrev pub end_said : Said
 end_said = told []
 
-abbrev pub next_says : Next → Said
-next_says (Retraction r) = retraction_said r
-next_says End = end_said
+abbrev pub next_says : Option ChessRetraction → Said
+next_says (Some r) = retraction_said r
+next_says None = end_said
 
 -- "the cursor goes in and comes back with the next retraction or the end"
 pub record Answered : Type 0 where

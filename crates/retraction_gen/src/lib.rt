@@ -36,17 +36,11 @@ pub struct Masks {
     pub masks: [u64; 6],
 }
 
-#[derive(Clone, Copy)]
-pub enum Next {
-    Retraction(ChessRetraction),
-    End,
-}
-
 // The cursor moved on, and its answer.
 #[derive(Drop)]
 pub struct Stepped {
     pub cursor: RetractionGen,
-    pub next: Next,
+    pub next: Option<ChessRetraction>,
 }
 
 // What one turn of `next` comes to.
@@ -83,7 +77,7 @@ impl RetractionGen {
         if !inner::well_formed(self) {
             return Stepped {
                 cursor: self,
-                next: Next::End,
+                next: None,
             };
         }
         loop {
@@ -95,13 +89,13 @@ impl RetractionGen {
                 Turn::Found(r) => {
                     return Stepped {
                         cursor: self,
-                        next: Next::Retraction(r),
+                        next: Some(r),
                     };
                 }
                 Turn::Over => {
                     return Stepped {
                         cursor: self,
-                        next: Next::End,
+                        next: None,
                     };
                 }
             }

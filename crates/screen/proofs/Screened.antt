@@ -16,8 +16,6 @@ use Rattle.board.specs.declared.RetractableBoard.{RetractableBoard}
 use Rattle.board.specs.Gate.{board_tests}
 use Rattle.text.specs.Entries.{text_on}
 use Rattle.retraction_gen.specs.declared.RetractionGen.{RetractionGen}
-use Rattle.retraction_gen.specs.declared.Next.{Next}
-use Rattle.retraction_gen.specs.declared.Next.TheVariants.{Retraction}
 use Rattle.retraction_gen.specs.declared.Stepped.{Stepped}
 use Rattle.retraction_gen.specs.Cursors.{next_says, Steps}
 use Rattle.output.specs.Appending.{Adds}
@@ -36,7 +34,7 @@ use Rattle.screen.specs.Screens.{opening_of, opening_text, board_before, retract
 use Rattle.words.proofs.Chained.{three_added, four_added, five_added}
 use Rattle.words.proofs.Lengths.{length_bytes, side_short, words_short}
 use Rattle.diagram.proofs.Drawn.{diagram_length}
-use Rattle.std.specs.Prelude.{Err}
+use Rattle.std.specs.Prelude.{Err, Some, Option}
 
 -- what the first failing test chooses, by the verdict that has its number
 module _ (ts : List Test) (x b : RetractableBoard) (v : Verdict) (k : verdict_number v ≡ first_failing ts) where
@@ -100,8 +98,8 @@ module _ (o : List ℕ) (l : length o ≡ 196608) where
 pub retraction_is : (s : Screen) (g : RetractionGen) (r : ChessRetraction) (slots : List ℕ) {n slot more size : ℕ} {q : Bool} {o out : List ℕ}
     → n ≡ one_more s.listed → slot ≡ packed r → q ≡ is_in slot slots → more ≡ cond q (one_more s.strict) s.strict
     → Shows (retraction_text s.board n r q) size o out
-    → ShownBy s g (Retraction r) slots
-    (record { screen = record { board = s.board; cursor = g; listed = n; strict = more }; next = Retraction r; size = size }) o out
+    → ShownBy s g (Some r) slots
+    (record { screen = record { board = s.board; cursor = g; listed = n; strict = more }; next = Some r; size = size }) o out
 retraction_is s g r slots {n} {slot} {more} {size} {q} {o} {out} a b e f k =
     let sign : q ≡ is_in (packed r) slots = e ∙ ap (λ (i : ℕ). is_in i slots) b in
     let count : more ≡ cond (is_in (packed r) slots) (one_more s.strict) s.strict = f ∙ ap (λ (t : Bool). cond t (one_more s.strict) s.strict) sign in
@@ -114,9 +112,9 @@ retraction_is s g r slots {n} {slot} {more} {size} {q} {o} {out} a b e f k =
 
 -- what the cursor yields is what is shown
 module _ (s : Screen) (p : Stepped) (k : Steps s.cursor p) where
-  pub yields_range : (r : ChessRetraction) → p.next ≡ Retraction r → InRange r
+  pub yields_range : (r : ChessRetraction) → p.next ≡ Some r → InRange r
   yields_range r e = next_range s.cursor r (sym k.answer ∙ ap next_says e)
 
-  pub press_shown : (slots : List ℕ) (a : Next) (r : Pressed) (o out : List ℕ) → p.next ≡ a → ShownBy s p.cursor a slots r o out → Shown s slots r o out
+  pub press_shown : (slots : List ℕ) (a : Option ChessRetraction) (r : Pressed) (o out : List ℕ) → p.next ≡ a → ShownBy s p.cursor a slots r o out → Shown s slots r o out
   press_shown slots a r o out e d =
-      record { next = p; steps = k; shown = subst (λ (x : Next). ShownBy s p.cursor x slots r o out) (sym e) d }
+      record { next = p; steps = k; shown = subst (λ (x : Option ChessRetraction). ShownBy s p.cursor x slots r o out) (sym e) d }

@@ -17,8 +17,6 @@ use Rattle.board.specs.declared.RetractableBoard.{RetractableBoard}
 use Rattle.board.specs.Gate.{pos_on, gate_of}
 use Rattle.retraction_gen.specs.declared.RetractionGen.{RetractionGen}
 use Rattle.retraction_gen.specs.declared.Made.{Made}
-use Rattle.retraction_gen.specs.declared.Next.{Next}
-use Rattle.retraction_gen.specs.declared.Next.TheVariants.{Retraction, End}
 use Rattle.retraction_gen.specs.declared.Stepped.{Stepped}
 use Rattle.retraction_gen.specs.Making.{list_tests, cursor_on, Makes}
 use Rattle.retraction_gen.specs.Sequence.{sequence_on, Yields}
@@ -36,6 +34,7 @@ use Rattle.screen.specs.declared.Screen.{Screen}
 use Rattle.screen.specs.declared.Pressed.{Pressed}
 use Rattle.screen.specs.Screens.{end_text, press_text, screen_after, Shown, ShowsAll, shown_of}
 use Rattle.refusal.specs.Refusals.{nothing_refused}
+use Rattle.std.specs.Prelude.{None, Option, Some}
 
 -- any two answers agree
 pub shown_one : {s : Screen} {slots o x y : List ℕ} {r q : Pressed} → Shown s slots r o x → Shown s slots q o y → (r ≡ q) × (x ≡ y)
@@ -89,18 +88,18 @@ shows_list : (s : Screen) (slots : List ℕ) (ts : List (List ℕ)) (l : List Ch
 unfolding ShowsAll shown_of Yields
 shows_list s slots [] l y k = refl
 shows_list s slots (t ∷ ts) [] y (r, o, out, p, e, k) =
-    let d : p.next.next ≡ End = next_one p.next.next End (p.steps.answer ∙ y) in
-    let m : r.screen ≡ screen_after s slots End p.next.cursor = p.shown.moved ∙ ap (λ (a : Next). screen_after s slots a p.next.cursor) d in
+    let d : p.next.next ≡ None = next_one p.next.next None (p.steps.answer ∙ y) in
+    let m : r.screen ≡ screen_after s slots None p.next.cursor = p.shown.moved ∙ ap (λ (a : Option ChessRetraction). screen_after s slots a p.next.cursor) d in
     let f : t ≡ end_text s.listed s.strict (length slots) = sym e ∙ shown_bytes p.shown.shows ∙ ap (press_text s slots) d in
     ap₂ (λ (x : List ℕ) (xs : List (List ℕ)). x ∷ xs) f
-    (shows_list (screen_after s slots End p.next.cursor) slots ts [] (still_ended s.cursor p.next.cursor y p.steps.cursor).0
+    (shows_list (screen_after s slots None p.next.cursor) slots ts [] (still_ended s.cursor p.next.cursor y p.steps.cursor).0
     (subst (λ (x : Screen). ShowsAll x slots ts) m k))
 shows_list s slots (t ∷ ts) (q ∷ l) y (r, o, out, p, e, k) =
-    let d : p.next.next ≡ Retraction q = next_one p.next.next (Retraction q) (p.steps.answer ∙ y.0) in
-    let m : r.screen ≡ screen_after s slots (Retraction q) p.next.cursor = p.shown.moved ∙ ap (λ (a : Next). screen_after s slots a p.next.cursor) d in
-    let f : t ≡ press_text s slots (Retraction q) = sym e ∙ shown_bytes p.shown.shows ∙ ap (press_text s slots) d in
+    let d : p.next.next ≡ Some q = next_one p.next.next (Some q) (p.steps.answer ∙ y.0) in
+    let m : r.screen ≡ screen_after s slots (Some q) p.next.cursor = p.shown.moved ∙ ap (λ (a : Option ChessRetraction). screen_after s slots a p.next.cursor) d in
+    let f : t ≡ press_text s slots (Some q) = sym e ∙ shown_bytes p.shown.shows ∙ ap (press_text s slots) d in
     ap₂ (λ (x : List ℕ) (xs : List (List ℕ)). x ∷ xs) f
-    (shows_list (screen_after s slots (Retraction q) p.next.cursor) slots ts l (subst (λ (g : RetractionGen). Yields g l) (sym p.steps.cursor) y.1)
+    (shows_list (screen_after s slots (Some q) p.next.cursor) slots ts l (subst (λ (g : RetractionGen). Yields g l) (sym p.steps.cursor) y.1)
     (subst (λ (x : Screen). ShowsAll x slots ts) m k))
 
 -- from `new_legal`, whatever it answers: n presses show the board's sequence, numbered from 1, and then the end

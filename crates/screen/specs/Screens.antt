@@ -1,5 +1,5 @@
 -- What the stepping screen shows: a board at its opening, a retraction for each press, and the end.
-use Rattle.std.specs.Prelude.{◌≡◌, Bool, cond, List, [], ◌∷◌, ◌++◌, ℕ, zero, suc, ◌+◌, min, eqb, length, take}
+use Rattle.std.specs.Prelude.{◌≡◌, Bool, cond, List, [], ◌∷◌, ◌++◌, ℕ, zero, suc, ◌+◌, min, eqb, length, take, Option, Some, None}
 use Rattle.geometry.specs.Colors.{opp}
 use Rattle.laws.specs.declared.ChessRetraction.{ChessRetraction}
 use Rattle.laws.specs.Retractions.{packed}
@@ -9,8 +9,6 @@ use Rattle.board.specs.Gate.{pos_on, board_tests}
 use Rattle.board.specs.Moving.{unmake_tests, unmade_on}
 use Rattle.text.specs.Entries.{text_on}
 use Rattle.retraction_gen.specs.declared.RetractionGen.{RetractionGen}
-use Rattle.retraction_gen.specs.declared.Next.{Next}
-use Rattle.retraction_gen.specs.declared.Next.TheVariants.{Retraction, End}
 use Rattle.retraction_gen.specs.declared.Stepped.{Stepped}
 use Rattle.retraction_gen.specs.Cursors.{Steps}
 use Rattle.rows.specs.Rows.{decimal_of, is_in}
@@ -49,24 +47,24 @@ abbrev pub one_more : ℕ → ℕ
 one_more n = min (n + 1) 18446744073709551615
 
 -- what a press shows whose cursor yields this, the slots of the strict list being given
-abbrev pub press_text : Screen → List ℕ → Next → List ℕ
-press_text s strict (Retraction r) = retraction_text s.board (one_more s.listed) r (is_in (packed r) strict)
-press_text s strict End = end_text s.listed s.strict (length strict)
+abbrev pub press_text : Screen → List ℕ → Option ChessRetraction → List ℕ
+press_text s strict (Some r) = retraction_text s.board (one_more s.listed) r (is_in (packed r) strict)
+press_text s strict None = end_text s.listed s.strict (length strict)
 
 -- the numbers shown, all and strict ones, after it
-abbrev pub listed_after : Screen → Next → ℕ
-listed_after s (Retraction r) = one_more s.listed
-listed_after s End = s.listed
+abbrev pub listed_after : Screen → Option ChessRetraction → ℕ
+listed_after s (Some r) = one_more s.listed
+listed_after s None = s.listed
 
-abbrev pub strict_after : Screen → List ℕ → Next → ℕ
-strict_after s strict (Retraction r) = cond (is_in (packed r) strict) (one_more s.strict) s.strict
-strict_after s strict End = s.strict
+abbrev pub strict_after : Screen → List ℕ → Option ChessRetraction → ℕ
+strict_after s strict (Some r) = cond (is_in (packed r) strict) (one_more s.strict) s.strict
+strict_after s strict None = s.strict
 
-abbrev pub screen_after : Screen → List ℕ → Next → RetractionGen → Screen
+abbrev pub screen_after : Screen → List ℕ → Option ChessRetraction → RetractionGen → Screen
 screen_after s strict a g = record { board = s.board; cursor = g; listed = listed_after s a; strict = strict_after s strict a }
 
 -- the cursor g has yielded a: the screen keeps g, and shows a
-pub record ShownBy (s : Screen) (g : RetractionGen) (a : Next) (strict : List ℕ) (r : Pressed) (o out : List ℕ) : Type 0 where
+pub record ShownBy (s : Screen) (g : RetractionGen) (a : Option ChessRetraction) (strict : List ℕ) (r : Pressed) (o out : List ℕ) : Type 0 where
   pub yielded : r.next ≡ a
   pub moved : r.screen ≡ screen_after s strict a g
   pub shows : Shows (press_text s strict a) r.size o out

@@ -2,14 +2,13 @@
 ghost use Rattle.std.specs.Prelude.{◌≡◌, cond};
 ghost use Rattle.geometry.specs.Lines.{IsBetween};
 ghost use Rattle.laws.specs.Retractions.{InRange};
-ghost use Rattle.retraction_gen.specs.declared.Next.TheVariants.{Retraction, End};
 ghost use Rattle.reply.specs.Replies.{Shows};
 ghost use Rattle.screen.specs.Screens.{board_before, retraction_text, end_text, one_more, Shown, ShownBy};
 
 use super::{Pressed, Screen};
 use board::RetractableBoard;
 use laws::ChessRetraction;
-use retraction_gen::{Next, RetractionGen};
+use retraction_gen::RetractionGen;
 
 // The board before a retraction; today's where un-make refuses it.
 fn before(t: &[u64; 4096], b: RetractableBoard, r: ChessRetraction) -> RetractableBoard
@@ -73,7 +72,7 @@ fn shown(
     out: &mut [u8; 196608],
 ) -> Pressed
     requires { IsBetween t.now × InRange r }
-    ensures { ShownBy s cursor (Retraction r) strict.now result out.old out.new }
+    ensures { ShownBy s cursor (Some r) strict.now result out.old out.new }
 {
     let board = s.board;
     let listed = one_more(s.listed);
@@ -86,19 +85,19 @@ fn shown(
             listed,
             strict: one_more_if(s.strict, is_strict),
         },
-        next: Next::Retraction(r),
+        next: Some(r),
         size,
     }
 }
 
 // The screen at the end, which is shown.
 fn ended(s: Screen, cursor: RetractionGen, strict: &[u16], out: &mut [u8; 196608]) -> Pressed
-    ensures { ShownBy s cursor End strict.now result out.old out.new }
+    ensures { ShownBy s cursor None strict.now result out.old out.new }
 {
     let size = put_end(s.listed, s.strict, strict.len() as u64, out);
     Pressed {
         screen: Screen { cursor, ..s },
-        next: Next::End,
+        next: None,
         size,
     }
 }
@@ -113,7 +112,7 @@ pub fn press(t: &[u64; 4096], s: Screen, strict: &[u16], out: &mut [u8; 196608])
     let cursor = p.cursor;
     let next = p.next;
     match next {
-        Next::Retraction(r) => shown(t, s, cursor, r, strict, out),
-        Next::End => ended(s, cursor, strict, out),
+        Some(r) => shown(t, s, cursor, r, strict, out),
+        None => ended(s, cursor, strict, out),
     }
 }

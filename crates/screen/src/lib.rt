@@ -5,7 +5,7 @@ ghost use Rattle.reply.specs.Replies.{Shows};
 ghost use Rattle.screen.specs.Screens.{opening_text, Shown};
 
 use board::RetractableBoard;
-use retraction_gen::{Next, RetractionGen};
+use retraction_gen::RetractionGen;
 use text::Printed;
 
 pub mod inner; // inner.rt: one press over a lent table
@@ -23,7 +23,7 @@ pub struct Screen {
 #[derive(Drop)]
 pub struct Pressed {
     pub screen: Screen,
-    pub next: Next,
+    pub next: Option<ChessRetraction>,
     pub size: usize,
 }
 

@@ -10,7 +10,7 @@ use input::{Cursor, Step};
 use laws::Edition;
 use presses::Press;
 use refusal::{Refusal, Verdict};
-use retraction_gen::{Next, RetractionGen};
+use retraction_gen::RetractionGen;
 use screen::Screen;
 use slots::Listed;
 use std::env::FillError;
@@ -258,10 +258,10 @@ fn left_at(unread: Cursor, is_over: bool) -> Left {
     Left { unread, is_over }
 }
 
-fn is_end(answer: Next) -> bool {
+fn is_end(answer: Option<ChessRetraction>) -> bool {
     match answer {
-        Next::Retraction(_) => false,
-        Next::End => true,
+        Some(_) => false,
+        None => true,
     }
 }
 

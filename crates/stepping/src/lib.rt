@@ -4,10 +4,10 @@
 ghost use Rattle.retraction_gen.specs.Cursors.{Steps};
 ghost use Rattle.stepping.specs.Presses.{Press};
 
-use retraction_gen::{Next, RetractionGen, Stepped};
+use retraction_gen::{RetractionGen, Stepped};
 
 // The next retraction of the caller's own cursor, or the end: what `next` answers, and in the record the cursor that `next` hands back.
-pub fn step(cursor: &mut RetractionGen) -> Next
+pub fn step(cursor: &mut RetractionGen) -> Option<ChessRetraction>
     ensures { Press cursor.old result cursor.new }
 {
     let s = (*cursor).next();

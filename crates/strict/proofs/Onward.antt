@@ -14,8 +14,6 @@ use Rattle.board.specs.declared.RetractableBoard.{RetractableBoard}
 use Rattle.board.specs.Gate.{pos_on, gate_of}
 use Rattle.strict_test.specs.inner.Strictly.{strict_for}
 use Rattle.strict_search.specs.inner.Searching.{test_of, Skips, Next}
-use Rattle.strict.specs.declared.Found.{Found}
-use Rattle.strict.specs.declared.Found.TheVariants.{At, NoMore, Refused as notFound}
 use Rattle.strict.specs.declared.Placed.{Placed}
 use Rattle.strict.specs.Demand.{Past}
 use Rattle.strict.specs.Onward.{FoundFrom, Finds}
@@ -26,7 +24,7 @@ use Rattle.board.proofs.Numbers.{gate_refuses, gate_passes, passed_gate}
 use Rattle.strict.proofs.Told.{strict_past, place_placed}
 use Rattle.strict.proofs.Unique.{no_refusal}
 use Rattle.refusal.specs.Refusals.{nothing_refused}
-use Rattle.std.specs.Prelude.{Err}
+use Rattle.std.specs.Prelude.{Err, Result, Option, Ok, Some, None}
 
 pub place_in : (r : ChessRetraction) → InRange r → place r < 49152
 place_in r h = go r.unpromotion
@@ -58,14 +56,14 @@ module _ (b : RetractableBoard) (h : gate_of b ≡ nothing_refused) where
       go (inl m) = absurd (false≢true (sym (s.none (place x) l m) ∙ passes x z))
       go (inr m) = m
 
-  finds : (r : Found) (i : ℕ) → FoundFrom b i r → Finds b i r
-  finds (At p) i f = record { number = sym (gate_passes b (gate_of b) refl h); found = λ _. f }
-  finds NoMore i f = record { number = sym (gate_passes b (gate_of b) refl h); found = λ _. f }
-  finds (notFound why) i f = absurd f
+  finds : (r : Result (Option Placed) Refusal) (i : ℕ) → FoundFrom b i r → Finds b i r
+  finds (Ok (Some p)) i f = record { number = sym (gate_passes b (gate_of b) refl h); found = λ _. f }
+  finds (Ok None) i f = record { number = sym (gate_passes b (gate_of b) refl h); found = λ _. f }
+  finds (Err why) i f = absurd f
 
-  pub found_at : (i j : ℕ) (r : Found) → Next (test_of (pos_on b)) i j → j < 49152 → r ≡ At (record { place = j; retraction = retraction_at j }) → Finds b i r
+  pub found_at : (i j : ℕ) (r : Result (Option Placed) Refusal) → Next (test_of (pos_on b)) i j → j < 49152 → r ≡ Ok (Some (record { place = j; retraction = retraction_at j })) → Finds b i r
   unfolding test_of strict_for
-  found_at i j r x l e = subst (λ (z : Found). Finds b i z) (sym e) (finds (At (record { place = j; retraction = retraction_at j })) i (
+  found_at i j r x l e = subst (λ (z : Result (Option Placed) Refusal). Finds b i z) (sym e) (finds (Ok (Some (record { place = j; retraction = retraction_at j }))) i (
     sym (place_placed j l),
     record {
       past = (strict_past b h (retraction_at j)).0 (x.there l);
@@ -75,21 +73,21 @@ module _ (b : RetractableBoard) (h : gate_of b ≡ nothing_refused) where
   ))
 
   -- a start or an end behind the last place
-  pub found_none : (i : ℕ) → 49152 ≤ i → Finds b i NoMore
-  found_none i l = finds NoMore i (λ x z m. past_end (within x z) m)
+  pub found_none : (i : ℕ) → 49152 ≤ i → Finds b i (Ok None)
+  found_none i l = finds (Ok None) i (λ x z m. past_end (within x z) m)
     where
       past_end : {k : ℕ} → k < 49152 → i ≤ k → ⊥
       past_end a m = omega arith
 
-  pub found_end : (i j : ℕ) → Next (test_of (pos_on b)) i j → 49152 ≤ j → Finds b i NoMore
-  found_end i j x l = finds NoMore i (λ q z m. (found_none j l).found h q z (not_skipped i j x.skips q z m))
+  pub found_end : (i j : ℕ) → Next (test_of (pos_on b)) i j → 49152 ≤ j → Finds b i (Ok None)
+  found_end i j x l = finds (Ok None) i (λ q z m. (found_none j l).found h q z (not_skipped i j x.skips q z m))
 
-pub found_refused : (b : RetractableBoard) (i : ℕ) (why : Refusal) → gate_of b ≡ Err why → Finds b i (notFound why)
+pub found_refused : (b : RetractableBoard) (i : ℕ) (why : Refusal) → gate_of b ≡ Err why → Finds b i (Err why)
 found_refused b i why h = record { number = gate_refuses b (gate_of b) refl why h; found = λ a. absurd (never why (sym h ∙ a)) }
 
 -- any two answers agree
 module _ (b : RetractableBoard) (i : ℕ) where
-  same_found : (p q : Placed) → gate_of b ≡ nothing_refused → FoundFrom b i (At p) → FoundFrom b i (At q) → p ≡ q
+  same_found : (p q : Placed) → gate_of b ≡ nothing_refused → FoundFrom b i (Ok (Some p)) → FoundFrom b i (Ok (Some q)) → p ≡ q
   same_found p q h x y = λ k. record { place = places k; retraction = same k }
     where
       equal : {m n : ℕ} → m ≤ n → n ≤ m → m ≡ n
@@ -104,13 +102,13 @@ module _ (b : RetractableBoard) (i : ℕ) where
       same : p.retraction ≡ q.retraction
       same = one_place b h p.retraction q.retraction x.1.past y.1.past same_place
 
-  pub one_found : (r s : Found) → Finds b i r → Finds b i s → r ≡ s
-  one_found (At p) (At q) x y = let h = passed_gate b (sym x.number) in ap At (same_found p q h (x.found h) (y.found h))
-  one_found (At p) NoMore x y = let h = passed_gate b (sym x.number) in absurd (y.found h p.retraction (x.found h).1.past (x.found h).1.on)
-  one_found NoMore (At q) x y = let h = passed_gate b (sym x.number) in absurd (x.found h q.retraction (y.found h).1.past (y.found h).1.on)
-  one_found NoMore NoMore x y = refl
-  one_found (At p) (notFound w) x y = no_refusal w (x.number ∙ sym y.number)
-  one_found NoMore (notFound w) x y = no_refusal w (x.number ∙ sym y.number)
-  one_found (notFound v) (At q) x y = no_refusal v (y.number ∙ sym x.number)
-  one_found (notFound v) NoMore x y = no_refusal v (y.number ∙ sym x.number)
-  one_found (notFound v) (notFound w) x y = ap notFound (number_one v w (x.number ∙ sym y.number))
+  pub one_found : (r s : Result (Option Placed) Refusal) → Finds b i r → Finds b i s → r ≡ s
+  one_found (Ok (Some p)) (Ok (Some q)) x y = let h = passed_gate b (sym x.number) in ap Ok (Some (same_found p q h (x.found h) (y.found h)))
+  one_found (Ok (Some p)) (Ok None) x y = let h = passed_gate b (sym x.number) in absurd (y.found h p.retraction (x.found h).1.past (x.found h).1.on)
+  one_found (Ok None) (Ok (Some q)) x y = let h = passed_gate b (sym x.number) in absurd (x.found h q.retraction (y.found h).1.past (y.found h).1.on)
+  one_found (Ok None) (Ok None) x y = refl
+  one_found (Ok (Some p)) (Err w) x y = no_refusal w (x.number ∙ sym y.number)
+  one_found (Ok None) (Err w) x y = no_refusal w (x.number ∙ sym y.number)
+  one_found (Err v) (Ok (Some q)) x y = no_refusal v (y.number ∙ sym x.number)
+  one_found (Err v) (Ok None) x y = no_refusal v (y.number ∙ sym x.number)
+  one_found (Err v) (Err w) x y = ap Err (number_one v w (x.number ∙ sym y.number))

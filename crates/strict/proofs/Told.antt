@@ -25,8 +25,6 @@ use Rattle.slots.specs.declared.Listed.{Listed}
 use Rattle.slots.specs.declared.Listed.TheVariants.{Refused as notListed}
 use Rattle.slots.specs.Slots.{listed_says}
 use Rattle.strict_search.specs.inner.Searching.{strict_moves, test_of, Next}
-use Rattle.strict.specs.declared.Counted.TheVariants.{Count, Refused as notCounted}
-use Rattle.strict.specs.declared.LastMove.TheVariants.{Exists, NoLastMove, Refused as notAnswered}
 use Rattle.strict.specs.Demand.{Past, IsStrictList, Lists, Counts, Answers}
 use Rattle.laws.proofs.StrictMembers.{map_in, in_map, in_passes, placed_place, strict_in, strict_order, strict_member}
 use Rattle.laws.proofs.BoardPasts.{demand3}
@@ -35,7 +33,7 @@ use Rattle.refusal.proofs.Writing.{no_both, writes_behind, writes_refused}
 use Rattle.board.proofs.Passing.{gate_passed, gate_by, accepted_by_gate}
 use Rattle.board.proofs.Numbers.{gate_refuses, gate_passes}
 use Rattle.strict_search.proofs.Remaining.{rest, all_rest, at_end, one_more}
-use Rattle.std.specs.Prelude.{Err}
+use Rattle.std.specs.Prelude.{Err, Ok}
 
 abbrev from_laws : Board → RetractableBoard
 from_laws e = record {
@@ -118,7 +116,7 @@ module _ (b : RetractableBoard) (h : gate_of b ≡ nothing_refused) (j : ℕ) (x
   zero_said : 0 ≡ first_failing (board_tests b)
   zero_said = sym (gate_passes b (gate_of b) refl h)
 
-  pub answers_some : j < 49152 → Answers b Exists
+  pub answers_some : j < 49152 → Answers b (Ok true)
   answers_some l = record {
     number = zero_said;
     exists = λ _. ((λ _. (retraction_at j, past)), (λ _. refl));
@@ -128,7 +126,7 @@ module _ (b : RetractableBoard) (h : gate_of b ≡ nothing_refused) (j : ℕ) (x
       past : Past b (retraction_at j)
       past = ((whole _ (one_more _ _ _ x l)).members (retraction_at j)).0 here
 
-  pub answers_none : 49152 ≤ j → Answers b NoLastMove
+  pub answers_none : 49152 ≤ j → Answers b (Ok false)
   answers_none f = record {
     number = zero_said;
     exists = λ _. ((λ e. no_both (sym e)), (λ q. absurd (no_past q.0 q.1)));
@@ -146,7 +144,7 @@ module _ (b : RetractableBoard) where
   pub listed_told : {s after : List ℕ} (r : Listed) → gate_of b ≡ nothing_refused → Writes [] (map packed (strict_moves (pos_on b))) s (listed_says r) after → Lists b s r after
   listed_told r h e = record { moves = strict_moves (pos_on b); exact = demanded b; into = writes_behind (gate_passes b (gate_of b) refl h) e }
 
-  pub counted_told : {n : ℕ} → gate_of b ≡ nothing_refused → n ≡ length (strict_moves (pos_on b)) → Counts b (Count n)
+  pub counted_told : {n : ℕ} → gate_of b ≡ nothing_refused → n ≡ length (strict_moves (pos_on b)) → Counts b (Ok n)
   counted_told h e = record {
     moves = strict_moves (pos_on b);
     exact = demanded b;
@@ -163,8 +161,8 @@ module _ (b : RetractableBoard) where
     pub listed_refused : (s : List ℕ) → Lists b s (notListed why) s
     listed_refused s = record { moves = []; exact = nothing_asked; into = writes_refused why number }
 
-    pub counted_refused : Counts b (notCounted why)
+    pub counted_refused : Counts b (Err why)
     counted_refused = record { moves = []; exact = nothing_asked; answer = behind_by (Err why) (board_tests b) (told (0 ∷ [])) number }
 
-    pub answers_refused : Answers b (notAnswered why)
+    pub answers_refused : Answers b (Err why)
     answers_refused = record { number = number; exists = λ a. absurd (never why (sym h ∙ a)); none = λ a. absurd (never why (sym h ∙ a)) }

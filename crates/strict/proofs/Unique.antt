@@ -14,10 +14,6 @@ use Rattle.refusal.specs.Said.{first_failing, number_said, told}
 use Rattle.board.specs.declared.RetractableBoard.{RetractableBoard}
 use Rattle.board.specs.Gate.{gate_of, board_tests}
 use Rattle.slots.specs.declared.Listed.{Listed}
-use Rattle.strict.specs.declared.Counted.{Counted}
-use Rattle.strict.specs.declared.Counted.TheVariants.{Count, Refused as notCounted}
-use Rattle.strict.specs.declared.LastMove.{LastMove}
-use Rattle.strict.specs.declared.LastMove.TheVariants.{Exists, NoLastMove, Refused as notAnswered}
 use Rattle.strict.specs.Demand.{IsStrictList, Lists, counted_says, Counts, Answers}
 use Rattle.laws.proofs.StrictMembers.{in_cases}
 use Rattle.refusal.proofs.Saying.{never, number_one, verdict_one}
@@ -25,7 +21,7 @@ use Rattle.refusal.proofs.Tested.{behind_any}
 use Rattle.refusal.proofs.Writing.{no_value, writes_any}
 use Rattle.board.proofs.Numbers.{passed_gate}
 use Rattle.slots.proofs.Telling.{one_listed}
-use Rattle.std.specs.Prelude.{Err}
+use Rattle.std.specs.Prelude.{Err, Result, Ok, true, false, Bool}
 
 in_none : {r : ChessRetraction} → In r [] → ⊥
 in_none z = elim z [ ]
@@ -76,13 +72,13 @@ one_listing b s r q t u x y =
     one_listed y.moves r q t u
     (writes_any (map packed y.moves) (λ h. ap (map packed) (one_where b x.moves y.moves x.exact y.exact h)) x.into) y.into
 
-counted_one : (r q : Counted) → counted_says r ≡ counted_says q → r ≡ q
-counted_one (Count m) (Count n) e = cc
-counted_one (Count m) (notCounted w) e = no_value e
-counted_one (notCounted v) (Count n) e = no_value (sym e)
-counted_one (notCounted v) (notCounted w) e = ap notCounted (number_one v w (ap number_said e))
+counted_one : (r q : Result ℕ Refusal) → counted_says r ≡ counted_says q → r ≡ q
+counted_one (Ok m) (Ok n) e = cc
+counted_one (Ok m) (Err w) e = no_value e
+counted_one (Err v) (Ok n) e = no_value (sym e)
+counted_one (Err v) (Err w) e = ap Err (number_one v w (ap number_said e))
 
-pub one_count : (b : RetractableBoard) (r q : Counted) → Counts b r → Counts b q → r ≡ q
+pub one_count : (b : RetractableBoard) (r q : Result ℕ Refusal) → Counts b r → Counts b q → r ≡ q
 one_count b r q x y =
     counted_one r q
     (x.answer
@@ -94,16 +90,16 @@ pub no_refusal : {A : Type 0} (why : Refusal) → 0 ≡ number_of why → A
 no_refusal why e = absurd (never why (sym (verdict_one nothing_refused (Err why) e)))
 
 -- "no last move" and a last move are never both allowed
-not_both : {A : Type 0} (b : RetractableBoard) → Answers b Exists → Answers b NoLastMove → A
+not_both : {A : Type 0} (b : RetractableBoard) → Answers b (Ok true) → Answers b (Ok false) → A
 not_both b x y = let h = passed_gate b (sym x.number) in let p = (x.exists h).0 refl in absurd ((y.none h).0 refl p.0 p.1)
 
-pub one_last_move : (b : RetractableBoard) (r q : LastMove) → Answers b r → Answers b q → r ≡ q
-one_last_move b Exists Exists x y = refl
-one_last_move b Exists NoLastMove x y = not_both b x y
-one_last_move b Exists (notAnswered w) x y = no_refusal w (x.number ∙ sym y.number)
-one_last_move b NoLastMove Exists x y = not_both b y x
-one_last_move b NoLastMove NoLastMove x y = refl
-one_last_move b NoLastMove (notAnswered w) x y = no_refusal w (x.number ∙ sym y.number)
-one_last_move b (notAnswered v) Exists x y = no_refusal v (y.number ∙ sym x.number)
-one_last_move b (notAnswered v) NoLastMove x y = no_refusal v (y.number ∙ sym x.number)
-one_last_move b (notAnswered v) (notAnswered w) x y = ap notAnswered (number_one v w (x.number ∙ sym y.number))
+pub one_last_move : (b : RetractableBoard) (r q : Result Bool Refusal) → Answers b r → Answers b q → r ≡ q
+one_last_move b (Ok true) (Ok true) x y = refl
+one_last_move b (Ok true) (Ok false) x y = not_both b x y
+one_last_move b (Ok true) (Err w) x y = no_refusal w (x.number ∙ sym y.number)
+one_last_move b (Ok false) (Ok true) x y = not_both b y x
+one_last_move b (Ok false) (Ok false) x y = refl
+one_last_move b (Ok false) (Err w) x y = no_refusal w (x.number ∙ sym y.number)
+one_last_move b (Err v) (Ok true) x y = no_refusal v (y.number ∙ sym x.number)
+one_last_move b (Err v) (Ok false) x y = no_refusal v (y.number ∙ sym x.number)
+one_last_move b (Err v) (Err w) x y = ap Err (number_one v w (x.number ∙ sym y.number))

@@ -7,7 +7,7 @@ ghost use Rattle.strict_test.specs.inner.Strictly.{Today};
 ghost use Rattle.strict.specs.Demand.{Lists, Counts, Answers};
 ghost use Rattle.strict.specs.Onward.{Finds};
 
-use super::{Counted, Found, LastMove, Placed};
+use super::Placed;
 use board::RetractableBoard;
 use laws::Position;
 use slots::Listed;
@@ -42,60 +42,39 @@ pub fn strict_into(t: &[u64; 4096], b: RetractableBoard, slots: &mut [u16]) -> L
 }
 
 // Refusals 1 to 7, then the count.
-pub fn strict_count(t: &[u64; 4096], b: RetractableBoard) -> Counted
+pub fn strict_count(t: &[u64; 4096], b: RetractableBoard) -> Result<usize, Refusal>
     requires { IsBetween t.now }
     ensures { Counts b result }
 {
-    let v = board::inner::gate(t, b);
-    match v {
-        Err(why) => Counted::Refused(why),
-        Ok(()) => {
-            let p = today(b);
-            Counted::Count(strict_search::inner::count(t, p))
-        }
-    }
+    board::inner::gate(t, b)?;
+    Ok(strict_search::inner::count(t, today(b)))
 }
 
 // Refusals 1 to 7, then a search that ends at the first strict retraction.
-pub fn last_move(t: &[u64; 4096], b: RetractableBoard) -> LastMove
+pub fn last_move(t: &[u64; 4096], b: RetractableBoard) -> Result<bool, Refusal>
     requires { IsBetween t.now }
     ensures { Answers b result }
 {
-    let v = board::inner::gate(t, b);
-    match v {
-        Err(why) => LastMove::Refused(why),
-        Ok(()) => {
-            let p = today(b);
-            let first = strict_search::inner::next_from(t, p, 0);
-            if first < strict_search::inner::PLACES {
-                return LastMove::Exists;
-            }
-            LastMove::NoLastMove
-        }
-    }
+    board::inner::gate(t, b)?;
+    let first = strict_search::inner::next_from(t, today(b), 0);
+    Ok(first < strict_search::inner::PLACES)
 }
 
 // Refusals 1 to 7, then a search from a place on.
-pub fn strict_from(t: &[u64; 4096], b: RetractableBoard, start: usize) -> Found
+pub fn strict_from(t: &[u64; 4096], b: RetractableBoard, start: usize) -> Result<Option<Placed>, Refusal>
     requires { IsBetween t.now }
     ensures { Finds b start result }
 {
-    let v = board::inner::gate(t, b);
-    match v {
-        Err(why) => Found::Refused(why),
-        Ok(()) => {
-            if start >= strict_search::inner::PLACES {
-                return Found::NoMore;
-            }
-            let p = today(b);
-            let j = strict_search::inner::next_from(t, p, start);
-            if j < strict_search::inner::PLACES {
-                return Found::At(Placed {
-                    place: j,
-                    retraction: strict_search::inner::candidate(j),
-                });
-            }
-            Found::NoMore
-        }
+    board::inner::gate(t, b)?;
+    if start >= strict_search::inner::PLACES {
+        return Ok(None);
     }
+    let place = strict_search::inner::next_from(t, today(b), start);
+    if place >= strict_search::inner::PLACES {
+        return Ok(None);
+    }
+    Ok(Some(Placed {
+        place,
+        retraction: strict_search::inner::candidate(place),
+    }))
 }

@@ -11,32 +11,11 @@ use slots::Listed;
 
 pub mod inner; // inner.rt: the same over a lent table, and the position of an accepted board and its strict list
 
-// How many strict retractions there are, or why the board is refused.
-#[derive(Drop)]
-pub enum Counted {
-    Count(usize),
-    Refused(Refusal),
-}
-
-#[derive(Drop)]
-pub enum LastMove {
-    Exists,
-    NoLastMove,
-    Refused(Refusal),
-}
-
 // A retraction with its place in the order of all of them.
 #[derive(Drop)]
 pub struct Placed {
     pub place: usize,
     pub retraction: ChessRetraction,
-}
-
-#[derive(Drop)]
-pub enum Found {
-    At(Placed),
-    NoMore,
-    Refused(Refusal),
 }
 
 // The strict retractions of a board into slots, packed, by source, target, uncaptured man and mark: refusals 1 to 7, then 13.
@@ -48,7 +27,7 @@ pub fn strict_into(b: RetractableBoard, slots: &mut [u16]) -> Listed
 }
 
 // How many strict retractions a board has.
-pub fn strict_count(b: RetractableBoard) -> Counted
+pub fn strict_count(b: RetractableBoard) -> Result<usize, Refusal>
     ensures { Counts b result }
 {
     let t = tables::between_table();
@@ -56,7 +35,7 @@ pub fn strict_count(b: RetractableBoard) -> Counted
 }
 
 // Whether a board has a last move at all.
-pub fn last_move(b: RetractableBoard) -> LastMove
+pub fn last_move(b: RetractableBoard) -> Result<bool, Refusal>
     ensures { Answers b result }
 {
     let t = tables::between_table();
@@ -65,7 +44,7 @@ pub fn last_move(b: RetractableBoard) -> LastMove
 
 // The first strict retraction of a board from a place of the order on: refusals 1 to 7. Whoever goes on behind the place found has gone through the
 // strict list and kept none of it.
-pub fn strict_from(b: RetractableBoard, start: usize) -> Found
+pub fn strict_from(b: RetractableBoard, start: usize) -> Result<Option<Placed>, Refusal>
     ensures { Finds b start result }
 {
     let t = tables::between_table();

@@ -1,5 +1,5 @@
 -- The verdicts by which the code comes to what the tests say, and what it rests on.
-use Rattle.std.specs.Prelude.{◌≡◌, Bool, true, false, not, cond, ℕ, eqb, ltb}
+use Rattle.std.specs.Prelude.{◌≡◌, Bool, true, false, not, cond, ℕ, eqb, ltb, Result, Option, Ok, None, Some, Err}
 use Rattle.squares.specs.Squares.{has}
 use Rattle.laws.specs.declared.EnPassantFlag.{EnPassantFlag}
 use Rattle.laws.specs.declared.Position.{Position}
@@ -15,15 +15,11 @@ use Rattle.unmake.specs.Retracted.{unmade_to}
 use Rattle.incremental.specs.Moved.{piece_on}
 use Rattle.board.specs.declared.RetractableBoard.{RetractableBoard}
 use Rattle.board.specs.declared.Boarded.{Boarded}
-use Rattle.board.specs.declared.PieceOn.{PieceOn}
-use Rattle.board.specs.declared.PieceOn.TheVariants.{Nobody, Kind}
-use Rattle.board.specs.declared.Attackers.{Attackers}
-use Rattle.board.specs.declared.Attackers.TheVariants.{Set, Refused as notNamed}
-use Rattle.board.specs.declared.Attacked.{Attacked}
-use Rattle.board.specs.declared.Attacked.TheVariants.{Yes, No, Refused as notTold}
 use Rattle.board.specs.Gate.{men_on, pos_on, to_laws, position_on, stale_after, gate_of, boarded_by}
 use Rattle.board.specs.Answers.{worked_of}
 use Rattle.board.specs.Moving.{replayed_on}
+use Rattle.refusal.specs.declared.Refusal.{Refusal}
+use Rattle.laws.specs.declared.Piece.{Piece}
 
 -- clean men with a king each: what is worked out of them rests on it
 pub record Sound (p : Position) : Type 0 where
@@ -42,17 +38,13 @@ abbrev pub ask_gate : RetractableBoard → ℕ → Verdict
 ask_gate b sq = and_then (gate_of b) (unless (ltb sq 64) Source nothing_refused)
 
 -- the same as board.rs's `piece_on` (195 to 220) reads it from the sets, by which the code has it
-abbrev pub kind_read : RetractableBoard → ℕ → PieceOn
-kind_read b sq = cond (has b.combined sq) (Kind (piece_on (to_laws b) sq)) Nobody
-
-abbrev pub told_by : Bool → Attacked
-told_by true = Yes
-told_by false = No
+abbrev pub kind_read : RetractableBoard → ℕ → Option Piece
+kind_read b sq = cond (has b.combined sq) (Some (piece_on (to_laws b) sq)) None
 
 -- whether a set of attackers has one
-abbrev pub told_of : Attackers → Attacked
-told_of (Set s) = told_by (not (eqb s 0))
-told_of (notNamed r) = notTold r
+abbrev pub told_of : Result ℕ Refusal → Result Bool Refusal
+told_of (Ok s) = Ok (not (eqb s 0))
+told_of (Err r) = Err r
 
 abbrev pub state_gate : RetractableBoard → EnPassantFlag → Verdict
 state_gate b st = and_then (gate_of b) (unless (state_ok b.terms.edition (men_on b) b.turn st) Passant nothing_refused)

@@ -1,7 +1,7 @@
 // What a board's methods tell, put into an answer.
 ghost use Rattle.puts.specs.inner.Growing.{Grows};
 
-use board::{AttackTold, Attacked, Boarded, PieceOn, PieceTold};
+use board::{AttackTold, Boarded, PieceTold};
 use laws::Piece;
 
 // The text, the checkers and the pins.
@@ -26,9 +26,9 @@ pub(super) fn put_piece(told: PieceTold, out: &mut [u8; 65536]) -> usize
 {
     let p = told.answer;
     match p {
-        PieceOn::Nobody => puts::inner::bytes(out, 0, b"."),
-        PieceOn::Kind(k) => puts::inner::bytes(out, 0, &[letter(k)]),
-        PieceOn::Refused(r) => puts::inner::refused(r, out),
+        Ok(None) => puts::inner::bytes(out, 0, b"."),
+        Ok(Some(k)) => puts::inner::bytes(out, 0, &[letter(k)]),
+        Err(r) => puts::inner::refused(r, out),
     }
 }
 
@@ -48,8 +48,8 @@ pub(super) fn put_attacked(told: AttackTold, out: &mut [u8; 65536]) -> usize
 {
     let a = told.answer;
     match a {
-        Attacked::Yes => puts::inner::told(out, true),
-        Attacked::No => puts::inner::told(out, false),
-        Attacked::Refused(r) => puts::inner::refused(r, out),
+        Ok(true) => puts::inner::told(out, true),
+        Ok(false) => puts::inner::told(out, false),
+        Err(r) => puts::inner::refused(r, out),
     }
 }

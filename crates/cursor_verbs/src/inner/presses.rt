@@ -2,7 +2,7 @@
 ghost use Rattle.puts.specs.inner.Growing.{Grows};
 
 use super::entries;
-use retraction_gen::{Next, RetractionGen};
+use retraction_gen::RetractionGen;
 use retraction_list::{SourceAndTargets, UnCaptureKind};
 
 // `cursor TAB len index uncaptured m0 .. m5 place:source:targets:kind:mark ..`: what one press yields, and the cursor after it.
@@ -101,12 +101,12 @@ fn kind_of(letter: u8) -> UnCaptureKind {
 }
 
 // `source,target,uncaptured,mark` or `end`
-fn put_yield(answer: Next, out: &mut [u8; 65536]) -> usize
+fn put_yield(answer: Option<ChessRetraction>, out: &mut [u8; 65536]) -> usize
     ensures { Grows 0 result }
 {
     match answer {
-        Next::End => puts::inner::bytes(out, 0, b"end"),
-        Next::Retraction(r) => {
+        None => puts::inner::bytes(out, 0, b"end"),
+        Some(r) => {
             let s = puts::inner::number(out, 0, r.source as u64);
             let t = put_part(out, s, r.target);
             let u = put_part(out, t, r.uncaptured);

@@ -1,7 +1,7 @@
 // What each press of a board's cursor yields.
 ghost use Rattle.puts.specs.inner.Growing.{Grows};
 
-use retraction_gen::{Made, Next, RetractionGen};
+use retraction_gen::{Made, RetractionGen};
 
 // What each press of a board's cursor yields, packed, up to the third end.
 pub(super) fn put(lent: bool, m: Made, out: &mut [u8; 65536]) -> usize
@@ -35,20 +35,20 @@ fn put_presses(lent: bool, mut g: RetractionGen, out: &mut [u8; 65536]) -> usize
     n
 }
 
-fn ends_with(answer: Next, ends: u8) -> u8 {
+fn ends_with(answer: Option<ChessRetraction>, ends: u8) -> u8 {
     match answer {
-        Next::Retraction(_) => 0,
-        Next::End => if ends < 3 { ends + 1 } else { 3 },
+        Some(_) => 0,
+        None => if ends < 3 { ends + 1 } else { 3 },
     }
 }
 
-fn put_press(answer: Next, out: &mut [u8; 65536], len: usize) -> usize
+fn put_press(answer: Option<ChessRetraction>, out: &mut [u8; 65536], len: usize) -> usize
     ensures { Grows len result }
 {
     let a = gap(out, len);
     match answer {
-        Next::Retraction(r) => puts::inner::retraction(out, a, r),
-        Next::End => puts::inner::bytes(out, a, b"end"),
+        Some(r) => puts::inner::retraction(out, a, r),
+        None => puts::inner::bytes(out, a, b"end"),
     }
 }
 

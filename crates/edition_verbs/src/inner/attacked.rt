@@ -2,7 +2,7 @@
 ghost use Rattle.puts.specs.inner.Growing.{Grows};
 
 use super::Question;
-use board::{Attackers, AttackersTold};
+use board::AttackersTold;
 use castling::Castling;
 use laws::Side;
 
@@ -44,8 +44,8 @@ pub(super) fn put_attackers(told: AttackersTold, out: &mut [u8; 65536]) -> usize
 {
     let a = told.answer;
     match a {
-        Attackers::Set(men) => put_squares(out, 0, men),
-        Attackers::Refused(r) => puts::inner::refused(r, out),
+        Ok(men) => put_squares(out, 0, men),
+        Err(r) => puts::inner::refused(r, out),
     }
 }
 

@@ -1,20 +1,20 @@
 // The plies of a history, put packed behind `yes`, the latest first.
 ghost use Rattle.puts.specs.inner.Growing.{Grows};
 
-use history::{Answer, History};
+use history::History;
 use laws::ChessRetraction;
 
 // `no`, or `yes` and so many plies.
-pub(super) fn put(told: Answer, depth: u8, out: &mut [u8; 65536]) -> usize
+pub(super) fn put(told: Result<Option<History>, Why>, depth: u8, out: &mut [u8; 65536]) -> usize
     ensures { Grows 0 result }
 {
     match told {
-        Answer::Past(h) => {
+        Ok(Some(h)) => {
             let yes = puts::inner::bytes(out, 0, b"yes");
             put_plies(h, depth, out, yes)
         }
-        Answer::NoPast => puts::inner::bytes(out, 0, b"no"),
-        Answer::Refused(why) => puts::inner::refused_by(out, 0, history::number(why)),
+        Ok(None) => puts::inner::bytes(out, 0, b"no"),
+        Err(why) => puts::inner::refused_by(out, 0, history::number(why)),
     }
 }
 
