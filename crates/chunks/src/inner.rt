@@ -7,6 +7,7 @@ ghost use Rattle.chunks.specs.inner.Splitting.{Fit, Cuts};
 use super::{Ending, Part};
 
 // The place of the first newline from `at` on, or `end`.
+#[tactic(auto, using(crate::proofs::Cuts::stop_here, crate::proofs::Cuts::stop_later, crate::proofs::Cuts::stop_end))]
 pub fn find(s: &[u8], at: usize, end: usize) -> usize
     requires { (at ≤ end) × (end ≤ length s.now) }
     ensures { (result ≡ stop_from s.now at (end - at)) × (at ≤ result) × (result ≤ end) }
