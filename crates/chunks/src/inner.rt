@@ -1,5 +1,5 @@
 // The line that is cut out of what was read.
-ghost use Rattle.std.specs.Prelude.{◌≡◌, cond, ◌+◌, ◌-◌, ◌≤◌, min, ltb, length};
+ghost use Rattle.std.specs.Prelude.{◌≡◌, cond, ◌+◌, ◌-◌, ◌≤◌, ltb, length};
 ghost use Rattle.chunks.specs.declared.Ending.TheVariants.{Newline};
 ghost use Rattle.chunks.specs.Newlines.{stop_from};
 ghost use Rattle.chunks.specs.inner.Splitting.{Fit, Cuts};
@@ -7,24 +7,17 @@ ghost use Rattle.chunks.specs.inner.Splitting.{Fit, Cuts};
 use super::{Ending, Part};
 
 // The place of the first newline from `at` on, or `end`.
+#[tactic(auto, using(crate::proofs::Cuts::stop_here, crate::proofs::Cuts::stop_later, crate::proofs::Cuts::stop_end))]
 pub fn find(s: &[u8], at: usize, end: usize) -> usize
     requires { (at ≤ end) × (end ≤ length s.now) }
     ensures { (result ≡ stop_from s.now at (end - at)) × (at ≤ result) × (result ≤ end) }
 {
-    let mut i = at;
-    while i < end {
+    for i in at..end {
         if s[i] == b'\n' {
             return i;
         }
-        i += 1;
     }
-    i
-}
-
-fn least(a: usize, b: usize) -> usize
-    ensures { (result ≡ min a b) × (result ≤ a) × (result ≤ b) }
-{
-    if a < b { a } else { b }
+    end
 }
 
 // The place past a newline at `stop`, or the end where there is none.
@@ -47,18 +40,14 @@ pub fn cut(chunk: &[u8; 65536], line: &mut [u8; 65536], p: Part) -> Part
     requires { Fit p }
     ensures { Cuts chunk.now line.old p result line.new }
 {
-    let at = p.at;
-    let end = p.end;
-    let len = p.len;
-    let ending = p.ending;
-    let stop = find(chunk, at, end);
-    let n = least(stop - at, 65536 - len);
-    output::inner::copy(line, len, chunk, at, n);
+    let stop = find(chunk, p.at, p.end);
+    let n = (stop - p.at).min(65536 - p.len);
+    output::inner::copy(line, p.len, chunk, p.at, n);
     Part {
-        at: past(stop, end),
-        end,
-        len: len + n,
-        long: p.long | (n < stop - at),
-        ending: ending_at(stop, end, ending),
+        at: past(stop, p.end),
+        end: p.end,
+        len: p.len + n,
+        long: p.long | (n < stop - p.at),
+        ending: ending_at(stop, p.end, p.ending),
     }
 }

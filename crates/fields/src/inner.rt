@@ -11,28 +11,19 @@ pub fn byte(line: &[u8], at: usize) -> u8 {
 
 // The line begins with a word.
 pub fn starts(line: &[u8], word: &[u8]) -> bool {
-    let mut i = 0;
-    while i < word.len() {
-        if byte(line, i) != word[i] {
-            return false;
-        }
-        i += 1;
-    }
-    true
+    line.starts_with(word)
 }
 
 // The place of the next `sep`, or the line's end; a place past that stays.
 pub fn stop(line: &[u8], at: usize, sep: u8) -> usize
     ensures { Onward line.now at result }
 {
-    let mut i = at;
-    while i < line.len() {
+    for i in at..line.len() {
         if line[i] == sep {
             return i;
         }
-        i += 1;
     }
-    i
+    at.max(line.len())
 }
 
 // The place behind the next `sep`, or the line's end.
@@ -48,35 +39,26 @@ pub fn past(line: &[u8], at: usize, sep: u8, n: usize) -> usize
     ensures { Onward line.now at result }
 {
     let mut to = at;
-    let mut i = 0;
-    while i < n {
+    for _ in 0..n {
         to = after(line, to, sep);
-        i += 1;
     }
     to
 }
 
 // The field at a place, up to the next tab or the line's end; empty past that.
 pub fn text(line: &[u8], at: usize) -> &[u8] {
-    let end = stop(line, at, b'\t');
-    if at <= line.len() {
-        &line[at..end]
-    } else {
-        &line[..0]
-    }
+    line.get(at..stop(line, at, b'\t')).unwrap_or(&[])
 }
 
 // A number of digits below `base`, up to the first byte that is none.
 fn number_in(base: u64, line: &[u8], at: usize) -> u64 {
     let mut x = 0u64;
-    let mut i = at;
-    while i < line.len() {
+    for i in at..line.len() {
         let d = digits::hex_digit(line[i]);
         if d >= base {
-            return x;
+            break;
         }
         x = with_digit(base, x, d);
-        i += 1;
     }
     x
 }
@@ -86,10 +68,7 @@ fn with_digit(base: u64, x: u64, d: u64) -> u64 {
     if base == 16 {
         return (x << 4) | d;
     }
-    if x > 1844674407370955160 {
-        return u64::MAX;
-    }
-    if d > 9 {
+    if x > 1844674407370955160 || d > 9 {
         return u64::MAX;
     }
     x * 10 + d
@@ -123,22 +102,19 @@ pub fn sets(line: &[u8], at: usize) -> [u64; 6] {
 
 // A decimal number, 255 for all above it.
 pub fn decimal(line: &[u8], at: usize) -> u8 {
-    let x = number(line, at);
-    if x > 255 { 255 } else { x as u8 }
+    number(line, at).min(255) as u8
 }
 
 // A decimal number, 65,535 for all above it.
 pub fn counter(line: &[u8], at: usize) -> u16 {
-    let x = number(line, at);
-    if x > 65535 { 65535 } else { x as u16 }
+    number(line, at).min(65535) as u16
 }
 
 // The size of a slice, at most 8,192.
 pub fn size(line: &[u8], at: usize) -> usize
     ensures { result ≤ 8192 }
 {
-    let x = number(line, at);
-    if x > 8192 { 8192 } else { x as usize }
+    number(line, at).min(8192) as usize
 }
 
 // `w` or `b`.
@@ -162,8 +138,7 @@ pub fn rights(line: &[u8], at: usize, short: u8, long: u8) -> CastleRights {
 
 // `-`, `?` or the number of a square.
 pub fn state(line: &[u8], at: usize) -> EnPassantFlag {
-    let b = byte(line, at);
-    match b {
+    match byte(line, at) {
         b'-' => EnPassantFlag::None,
         b'?' => EnPassantFlag::Any,
         _ => EnPassantFlag::Some(decimal(line, at)),

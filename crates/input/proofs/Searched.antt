@@ -34,11 +34,11 @@ module _ (c : Cursor) where
   unfolding ◌and◌
   unread_there h k = rw (le-leb c.at c.end h, le-leb c.end 65536 k)
 
-  pub unread_nowhere : (r : Cursor) → (r.at ≡ 0) × (r.end ≡ 0) → (c.end < c.at) ⊎ (65536 < c.end) → r ≡ unread_at c
+  pub unread_nowhere : (r : Cursor) → (r.at ≡ 0) × (r.end ≡ 0) → (c.at ≤ c.end × 65536 < c.end) ⊎ (c.end < c.at) → r ≡ unread_at c
   unfolding ◌and◌
   unread_nowhere r e w =
       (λ i. record { at = e.0 i; end = e.1 i })
-      ∙ ⊎_elim (λ h. rw (lt-leb c.at c.end h)) (λ h. by (leb c.at c.end) h) w
+      ∙ ⊎_elim (λ h. by (leb c.at c.end) h.1) (λ h. rw (lt-leb c.at c.end h)) w
     where
       by : (t : Bool) → 65536 < c.end → record { at = 0; end = 0 } ≡ cond (t and leb c.end 65536) c (record { at = 0; end = 0 })
       by true h = rw (lt-leb c.end 65536 h)
@@ -143,11 +143,11 @@ module _ (s₀ l : List ℕ) (c : Cursor) (s line : List ℕ) (p : Part) (turns 
           let u : k ≡ length g.reads = omega (arith, ltb-false k (length g.reads) e, length-append g.reads (r ∷ [])) in
           rw (u, take-append_seam g.reads (r ∷ [])) found_open
 
-  pub going_on : 0 < turns → (s' line' : List ℕ) (q : Part) → Turns p line q s' line' → Going s₀ l c s' line' q (turns - 1)
+  pub going_on : (others : ℕ) → turns ≡ others + 1 → (s' line' : List ℕ) (q : Part) → Turns p line q s' line' → Going s₀ l c s' line' q others
   unfolding read_on
-  going_on h s' line' q t =
+  going_on others h s' line' q t =
       let r : Read = record { got = t.got; chunk = s' } in
-      going s₀ l c s' line (filled_of p t.got) (turns - 1) t.answered.1
+      going s₀ l c s' line (filled_of p t.got) others t.answered.1
       (filled_fit p fit t.got t.answered.0) g.bytes (record { len = g.kept.len; long = g.kept.long; held = g.kept.held })
       (g.reads ++ (r ∷ [])) (answered_more g.reads r g.answered t.answered.0 t.answered.1) (needed_more r)
       (omega (arith, g.made, length-append g.reads (r ∷ [])))

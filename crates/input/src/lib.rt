@@ -36,15 +36,16 @@ pub fn start() -> Cursor
     Cursor { at: 0, end: 0 }
 }
 
-// The next line. Nothing says that an input ends, so the reads are counted down from a number that no input uses up.
+// The next line. Nothing says that an input ends, so the reads are counted up to a number that no input reaches.
 pub fn next(stdin: &impl Input, chunk: &mut [u8; 65536], line: &mut [u8; 65536], c: Cursor) -> Step
     ensures { Gives chunk.old line.old c result chunk.new line.new }
 {
     let mut p = chunks::inner::cut(chunk, line, opened(c));
-    let mut turns = u64::MAX;
-    while turns > 0 && is_open(p) {
+    for _ in 0..u64::MAX {
+        if !is_open(p) {
+            break;
+        }
         p = turn(stdin, chunk, line, p);
-        turns -= 1;
     }
     step_of(p)
 }
@@ -63,15 +64,12 @@ fn opened(c: Cursor) -> Part
 }
 
 // A cursor that no chunk has says that nothing is read.
+#[tactic(auto, using(crate::proofs::Searched::unread_there))]
 fn unread(c: Cursor) -> Cursor
     ensures { (result ≡ unread_at c) × (result.at ≤ result.end) × (result.end ≤ 65536) }
 {
-    let at = c.at;
-    let end = c.end;
-    if at <= end {
-        if end <= 65536 {
-            return c;
-        }
+    if c.at <= c.end && c.end <= 65536 {
+        return c;
     }
     start()
 }
@@ -79,13 +77,7 @@ fn unread(c: Cursor) -> Cursor
 fn is_open(p: Part) -> bool
     ensures { result ≡ is_open p.ending }
 {
-    let ending = p.ending;
-    match ending {
-        Ending::Open => true,
-        Ending::Newline => false,
-        Ending::Over => false,
-        Ending::Failed => false,
-    }
+    matches!(p.ending, Ending::Open)
 }
 
 // Reads once, and cuts what came.
@@ -128,12 +120,10 @@ fn ending_of(got: Option<usize>) -> Ending
 fn step_of(p: Part) -> Step
     ensures { result ≡ step_for p.ending p.len p.long (cursor_of p) }
 {
-    let ending = p.ending;
-    match ending {
+    match p.ending {
         Ending::Newline => line_of(p),
         Ending::Over => if p.len > 0 { line_of(p) } else { Step::End },
-        Ending::Failed => Step::Failed,
-        Ending::Open => Step::Failed,
+        Ending::Failed | Ending::Open => Step::Failed,
     }
 }
 

@@ -4,8 +4,7 @@ use mathlib.Core.List.{List, [], ◌∷◌, ◌++◌, append_assoc, append-nil}
 use Prim.Native.Nat.{ℕ, zero, suc, ◌+◌, ◌-◌, ◌*◌, ◌≤◌, ◌<◌}
 use native.Mathlib.Omega.{arith}
 use native.Mathlib.Numerals.{add-one}
-use lib.ListN.{length, take, set, length-append}
-use lib.Seq.{take-suc-set}
+use lib.ListN.{length, take, length-append}
 use Rattle.geometry.specs.declared.Color.TheVariants.{White, Black}
 use Rattle.laws.specs.declared.Piece.TheVariants.{Pawn, Knight, Bishop, Rook, Queen, King}
 use Rattle.laws.specs.Men.{Man, empty, man, Men}
@@ -16,10 +15,6 @@ use Rattle.men_field.specs.inner.Lines.{text_of, Added, Stepped, Holds}
 
 pub added_none : (l : Line) → Added l [] l
 added_none l = record { text = sym (append-nil (text_of l)); len = omega arith }
-
-pub added_one : (l : Line) (b : ℕ) → l.len < length l.bytes
-    → Added l (b ∷ []) (record { bytes = set l.bytes l.len b; len = l.len + 1 })
-added_one l b h = record { text = rw (add-one, take-suc-set); len = refl }
 
 pub added_both : {l m r : Line} {s t : List ℕ} → Added l s m → Added m t r → Added l (s ++ t) r
 added_both {l} {m} {r} {s} {t} p q =
@@ -43,13 +38,6 @@ flush_append (suc n) s t = refl
 pub flush_short : (n : ℕ) → length (flush_of n []) ≤ n
 flush_short zero = omega arith
 flush_short (suc n) = omega arith
-
-pub flush_none : (l : Line) (n : ℕ) → n ≡ 0 → Added l (flush_of n []) l
-flush_none l n e = rw e (added_none l)
-
-pub flush_some : (l r : Line) (n : ℕ) → (n ≡ 0 → ⊥) → Added l ((48 + n) ∷ []) r → Added l (flush_of n []) r
-flush_some l r zero e a = absurd (e refl)
-flush_some l r (suc n) e a = a
 
 -- an empty square has no letter
 letter_some : (x : Man) → byte_of x ≡ 0 → x ≡ empty
@@ -131,10 +119,6 @@ ranks_short m (suc r) = omega (arith, ranks_short m r, rank_short m r, length-ap
 pub men_short : (m : Men) → length (men_text m) ≤ 71
 unfolding men_text
 men_short m = omega (arith, rank_short m 7, ranks_short m 7, length-append (rank_text m 7) (ranks_text m 7))
-
-pub rank_first : (l : Line) (m : Men) (r : ℕ)
-    → Coming (record { line = l; run = 0 }) m (8 * r) (8 * r + 8) (text_of l ++ rank_text m r) (l.len + length (rank_text m r))
-rank_first l m r = let q : 8 * r + 8 - 8 * r ≡ 8 = omega arith in record { text = rw q; size = rw q }
 
 -- the rank is done: the last run is shown
 pub rank_done : {l r : Line} {s : Run} (m : Men) (e k : ℕ) {t : List ℕ} → k ≡ e → Coming s m k e (text_of l ++ t) (l.len + length t)

@@ -13,7 +13,7 @@ use Rattle.geometry.specs.declared.Color.{Color}
 use Rattle.geometry.specs.declared.Color.TheVariants.{White, Black}
 use Rattle.laws.specs.declared.Piece.{Piece}
 use Rattle.laws.specs.declared.Piece.TheVariants.{Pawn, Knight, Bishop, Rook, Queen, King}
-use Rattle.laws.specs.Men.{Man, man, kind_place, color_place, man_number, same_man, is_kind, is_of}
+use Rattle.laws.specs.Men.{Man, kind_place, color_place, man_number, same_man, is_kind, is_of}
 use Rattle.men_field.specs.inner.Letters.{place_of, man_by_number, men_by_numbers, belongs}
 use Rattle.squares.proofs.Testing.{agree, agree_eq}
 use Rattle.squares.proofs.Comprehension.{up_to_cong}

@@ -8,15 +8,13 @@ ghost use Rattle.men_field.specs.inner.Letters.{number_by_letter, width_of, plac
 
 use super::{Line, Run, Sets};
 
-pub fn push(l: Line, b: u8) -> Line
+pub fn push(mut l: Line, b: u8) -> Line
     requires { l.len < 81 }
     ensures { Added l (b ∷ []) result }
 {
-    let at = l.len;
-    let mut out = l;
-    out.bytes[at] = b;
-    out.len = at + 1;
-    out
+    l.bytes[l.len] = b;
+    l.len += 1;
+    l
 }
 
 // The digit of a run of empty squares; nothing for no square.
@@ -27,25 +25,25 @@ fn flush(l: Line, run: u8) -> Line
     if run == 0 {
         return l;
     }
-    push(l, 48 + run)
+    push(l, b'0' + run)
 }
 
 // One square more: its letter `b`, or 0 for an empty square.
+#[tactic(auto, using(crate::proofs::Adding::man_some))]
 fn put_man(s: Run, b: u8) -> Run
     requires { (s.line.len + s.run < 80) × (s.run < 9) }
     ensures { Stepped s b result }
 {
-    let line = s.line;
-    let run = s.run;
     if b == 0 {
         return Run {
-            line: line,
-            run: run + 1,
+            line: s.line,
+            run: s.run + 1,
         };
     }
-    let shown = flush(line, run);
-    let out = push(shown, b);
-    Run { line: out, run: 0 }
+    Run {
+        line: push(flush(s.line, s.run), b),
+        run: 0,
+    }
 }
 
 // White's letter of the kind on a square that has a man.
@@ -71,6 +69,7 @@ fn kind_letter(pieces: [u64; 6], k: u8) -> u8
 }
 
 // The letter of a square, 0 where no man stands.
+#[tactic(auto, using(crate::proofs::Shown::white_letter, crate::proofs::Shown::black_letter, crate::proofs::Shown::no_letter))]
 pub fn letter_at(pieces: [u64; 6], colors: [u64; 2], k: u8) -> u8
     requires { k < 64 }
     ensures { result ≡ byte_of (men_at pieces colors k) }
@@ -89,14 +88,10 @@ fn put_rank(l: Line, pieces: [u64; 6], colors: [u64; 2], rank: u8) -> Line
     ensures { Added l (rank_text (men_at pieces colors) rank) result }
 {
     let mut s = Run { line: l, run: 0 };
-    let mut k = 8 * rank;
-    while k < 8 * rank + 8 {
+    for k in 8 * rank..8 * rank + 8 {
         s = put_man(s, letter_at(pieces, colors, k));
-        k += 1;
     }
-    let line = s.line;
-    let run = s.run;
-    flush(line, run)
+    flush(s.line, s.run)
 }
 
 // The men, from rank 8 down.
@@ -108,16 +103,14 @@ pub fn put_men(pieces: [u64; 6], colors: [u64; 2]) -> Line
         len: 0,
     };
     let mut line = put_rank(blank, pieces, colors, 7);
-    let mut rank = 7u8;
-    while 0 < rank {
-        rank -= 1;
-        let slashed = push(line, b'/');
-        line = put_rank(slashed, pieces, colors, rank);
+    for rank in (0..7).rev() {
+        line = put_rank(push(line, b'/'), pieces, colors, rank);
     }
     line
 }
 
 // The number of a letter's man, 0 for a byte that is none.
+#[tactic(auto, unfolding(crate::specs::inner::Letters::number_by_letter))]
 pub fn number_of(b: u8) -> u8
     ensures { result ≡ number_by_letter b }
 {
@@ -139,6 +132,7 @@ pub fn number_of(b: u8) -> u8
 }
 
 // How many squares a byte stands for: a digit its number, a slash none, a letter one.
+#[tactic(auto, unfolding(crate::specs::inner::Letters::width_of))]
 pub fn width_of(b: u8) -> usize
     ensures { (result ≡ width_of b) × (result ≤ 8) }
 {
@@ -152,6 +146,7 @@ pub fn width_of(b: u8) -> usize
 }
 
 // The place of a square in the text's order, from a8.
+#[tactic(auto, unfolding(crate::specs::inner::Letters::place_of))]
 fn place_of(k: u8) -> usize
     requires { k < 64 }
     ensures { (result ≡ place_of k) × (result < 64) }
@@ -160,6 +155,7 @@ fn place_of(k: u8) -> usize
 }
 
 // Whether a man, by its number, belongs to a set: 0 to 5 the kinds, 6 and 7 the colours. Most squares hold none.
+#[tactic(auto, using(crate::proofs::Belonging::nobody), unfolding(crate::specs::inner::Letters::belongs))]
 fn is_in(w: u8, n: u8) -> bool
     ensures { result ≡ belongs w n }
 {
@@ -176,11 +172,10 @@ fn is_in(w: u8, n: u8) -> bool
 fn set_of(men: [u8; 64], w: u8) -> u64
     ensures { result ≡ set_of (λ k. belongs w (get_or men (place_of k) 0)) }
 {
-    let mut r: u64 = 0;
-    for k in 0u8..64 {
-        let j = place_of(k);
-        if is_in(w, men[j]) {
-            r = r | squares::bit(k);
+    let mut r = 0;
+    for k in 0..64 {
+        if is_in(w, men[place_of(k)]) {
+            r |= squares::bit(k);
         }
     }
     r
@@ -190,16 +185,15 @@ fn set_of(men: [u8; 64], w: u8) -> u64
 pub fn sets_of(men: [u8; 64]) -> Sets
     ensures { (result.pieces ≡ kind_sets (men_by_numbers men)) × (result.colors ≡ color_sets (men_by_numbers men)) }
 {
-    let p = set_of(men, 0);
-    let n = set_of(men, 1);
-    let b = set_of(men, 2);
-    let r = set_of(men, 3);
-    let q = set_of(men, 4);
-    let k = set_of(men, 5);
-    let white = set_of(men, 6);
-    let black = set_of(men, 7);
     Sets {
-        pieces: [p, n, b, r, q, k],
-        colors: [white, black],
+        pieces: [
+            set_of(men, 0),
+            set_of(men, 1),
+            set_of(men, 2),
+            set_of(men, 3),
+            set_of(men, 4),
+            set_of(men, 5),
+        ],
+        colors: [set_of(men, 6), set_of(men, 7)],
     }
 }

@@ -5,30 +5,14 @@ use mathlib.Core.List.{List, ◌++◌}
 use Prim.Native.Nat.{ℕ, ◌^◌, ◌+◌, ◌-◌, ◌≤◌, ◌<◌, min}
 use native.Mathlib.Nat.{le_refl, le_antisymm, pow-le-pow_right}
 use native.Mathlib.Omega.{arith}
-use native.Mathlib.Numerals.{add-one}
 use lib.Dec.{leb}
-use lib.ListN.{length, take, drop, get_or, set, length-drop}
-use lib.Seq.{paste, paste-suc, take-paste, take-length, length-paste, get_or-drop}
-use borrow.Author.Tests.{le-leb, lt-leb, leb-true, leb-false}
+use lib.ListN.{length, take}
+use lib.Seq.{paste, take-paste, take-length, length-paste}
+use borrow.Author.Tests.{le-leb, leb-true, leb-false}
 use Rattle.io.specs.Digits.{last_digits, IsDigitCount}
 use Rattle.output.specs.declared.Put.{Put}
 use Rattle.output.specs.declared.Put.TheVariants.{Count, Room}
 use Rattle.output.specs.Appending.{put_says, put_of, used_of, added_out, Puts, PutsDecimal, Adds}
-
--- one more byte of s is in o
-pub copy_more : (o : List ℕ) (at : ℕ) (s : List ℕ) (from j : ℕ) → at + j < length o → from + j < length s
-    → set (paste o at (drop from s) j) (at + j) (get_or s (from + j) 0) ≡ paste o at (drop from s) (j + 1)
-copy_more o at s from j h k =
-    let l : j < length (drop from s) = simp length-drop (omega arith) in
-    rw (add-one, ← get_or-drop from s j 0) (paste-suc o at (drop from s) j 0 h l)
-
--- the test for room subtracts
-pub room_is : (have len n : ℕ) → len ≤ have → leb n (have - len) ≡ leb (len + n) have
-room_is have len n h = by (leb n (have - len)) refl
-  where
-    by : (t : Bool) → leb n (have - len) ≡ t → t ≡ leb (len + n) have
-    by true e = let k = leb-true n (have - len) e in sym (le-leb (len + n) have (omega arith))
-    by false e = let k = leb-false n (have - len) e in sym (lt-leb (len + n) have (omega arith))
 
 -- bytes that have room behind the first `len` are put, others are not
 module _ (o b : List ℕ) (len : ℕ) where
@@ -51,12 +35,6 @@ module _ (o b after : List ℕ) (len : ℕ) (r : Put) (p : Puts o len b r after)
       by (Room n) false m k e = refl
       by (Count n) false m k e = absurd (omega (arith, ap (λ (x : ℕ × ℕ). x.0) e))
       by (Room n) true m k e = absurd (omega (arith, ap (λ (x : ℕ × ℕ). x.0) e))
-
--- the digits of a number are put, as the text of them
-pub puts_digits : (o t : List ℕ) (b len x k n : ℕ) (r : Put) (after : List ℕ) → Puts o len (take k t) r after → take k t ≡ last_digits b k x → k ≡ n
-    → Puts o len (last_digits b n x) r after
-puts_digits o t b len x k n r after a e h =
-    subst (λ (l : List ℕ). Puts o len l r after) (e ∙ ap (λ (i : ℕ). last_digits b i x) h) a
 
 -- bytes that were added with room
 module _ (o b after : List ℕ) (len r : ℕ) (a : Adds o len b r after) (h : len + length b ≤ length o) where
@@ -94,18 +72,6 @@ fewest_one b x i j h p q = le_antisymm (below p q) (below q p)
             let u : b ^ (m - 1) ≤ x = p.2 (omega arith) in
             let w : b ^ n ≤ b ^ (m - 1) = pow-le-pow_right (omega arith) (omega arith) in
             absurd (omega (arith, q.1))
-
--- sixteen hexadecimal digits hold any number of 64 bits
-pub sixteen : (x k : ℕ) → x < 2 ^ 64 → IsDigitCount 16 16 x k → k ≡ 16
-sixteen x k h p = le_antisymm (by (leb k 16) refl) p.0
-  where
-    by : (t : Bool) → leb k 16 ≡ t → k ≤ 16
-    by true e = leb-true k 16 e
-    by false e =
-        let l = leb-false k 16 e in
-        let u : 16 ^ (k - 1) ≤ x = p.2 (omega arith) in
-        let w : 16 ^ 16 ≤ 16 ^ (k - 1) = pow-le-pow_right {n = 16} (omega arith) {i = 16} {j = k - 1} (omega arith) in
-        absurd (omega arith)
 
 -- two answers that say the same are one
 pub said_one : (r s : Put) → put_says r ≡ put_says s → r ≡ s

@@ -7,19 +7,12 @@ pub fn copy(out: &mut [u8], at: usize, src: &[u8], from: usize, n: usize)
     requires { (at + n ≤ length out.old) × (from + n ≤ length src.now) }
     ensures { out.new ≡ paste out.old at (drop from src.now) n }
 {
-    let mut j = 0;
-    while j < n {
-        out[at + j] = src[from + j];
-        j += 1;
-    }
+    out[at..at + n].copy_from_slice(&src[from..from + n]);
 }
 
 // Whether n bytes have room behind the first `len` of `have`. It subtracts, as the sum need not fit.
 pub fn has_room(have: usize, len: usize, n: usize) -> bool
     ensures { result ≡ leb (len + n) have }
 {
-    if have < len {
-        return false;
-    }
-    n <= have - len
+    len <= have && n <= have - len
 }

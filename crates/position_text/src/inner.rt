@@ -94,11 +94,7 @@ fn fill(bytes: [u8; 81], n: usize, out: &mut [u8])
     requires { (n ≤ 81) × (n ≤ length out.old) }
     ensures { out.new ≡ take n bytes ++ drop n out.old }
 {
-    let mut i = 0;
-    while i < n {
-        out[i] = bytes[i];
-        i += 1;
-    }
+    out[..n].copy_from_slice(&bytes[..n]);
 }
 
 // How many of `n` bytes are written where there is room for `have`: all or none.
@@ -128,21 +124,10 @@ pub fn same(l: Line, t: &[u8]) -> bool
     requires { l.len ≤ 81 }
     ensures { SameAs (text_of l) t.now result }
 {
-    let n = l.len;
-    let bytes = l.bytes;
-    if t.len() != n {
-        return false;
-    }
-    let mut i = 0;
-    while i < n {
-        if bytes[i] != t[i] {
-            return false;
-        }
-        i += 1;
-    }
-    true
+    &l.bytes[..l.len] == t
 }
 
+#[tactic(auto, unfolding(crate::specs::inner::Reading::right_of))]
 fn right_of(b: u8) -> u8
     ensures { (result ≡ right_of b) × (result ≤ 8) }
 {
@@ -156,6 +141,7 @@ fn right_of(b: u8) -> u8
 }
 
 // The state after one more byte of its field: 64 stands for none, 65 for unknown.
+#[tactic(auto, unfolding(crate::specs::inner::Reading::square_of))]
 fn square_of(s: u8, b: u8) -> u8
     ensures { result ≡ square_of s b }
 {
@@ -171,6 +157,7 @@ fn square_of(s: u8, b: u8) -> u8
     (b - b'a') % 8
 }
 
+#[tactic(auto, unfolding(crate::specs::inner::Reading::step_men))]
 fn step_men(s: Scan, b: u8) -> Scan
     ensures { result ≡ step_men s b }
 {
@@ -184,6 +171,7 @@ fn step_men(s: Scan, b: u8) -> Scan
     out
 }
 
+#[tactic(auto, unfolding(crate::specs::inner::Reading::step_tail))]
 fn step_tail(s: Scan, b: u8) -> Scan
     ensures { result ≡ step_tail s b }
 {
@@ -201,6 +189,7 @@ fn step_tail(s: Scan, b: u8) -> Scan
     out
 }
 
+#[tactic(auto, unfolding(crate::specs::inner::Reading::step_of))]
 fn step(s: Scan, b: u8) -> Scan
     ensures { result ≡ step_of s b }
 {
@@ -216,6 +205,7 @@ fn step(s: Scan, b: u8) -> Scan
     step_tail(s, b)
 }
 
+#[tactic(auto, using(crate::proofs::Walks::run_step, crate::proofs::Walks::run_done))]
 fn walk(t: &[u8]) -> Scan
     ensures { result ≡ run_of start_of t.now }
 {
@@ -227,10 +217,8 @@ fn walk(t: &[u8]) -> Scan
         rights: 0,
         square: 0,
     };
-    let mut i = 0;
-    while i < t.len() {
-        s = step(s, t[i]);
-        i += 1;
+    for b in t {
+        s = step(s, *b);
     }
     s
 }

@@ -15,8 +15,8 @@ fn name(square: u8) -> [u8; 2]
 fn put_spaced(out: &mut [u8], len: usize, square: u8) -> usize
     ensures { Adds out.old len (spaced_name square) result out.new }
 {
-    let bytes = [b' ', b'a' + square % 8, b'1' + square / 8];
-    output::put_bytes(out, len, &bytes).used(len)
+    let [file, rank] = name(square);
+    output::put_bytes(out, len, &[b' ', file, rank]).used(len)
 }
 
 // Each square of a set, the lowest first, behind a space.
@@ -26,6 +26,7 @@ fn put_all_spaced(out: &mut [u8], len: usize, set: u64) -> usize
 {
     let mut at = len;
     let mut left = set;
+    // No `for`: the turns go from one of the set's squares to the next, with no number that counts them.
     while left != 0 {
         let k = squares::lowest(left);
         at = put_spaced(out, at, k);
@@ -43,7 +44,6 @@ pub fn put_squares(out: &mut [u8], len: usize, set: u64) -> usize
         return output::put_bytes(out, len, b"-").used(len);
     }
     let first = squares::lowest(set);
-    let bytes = name(first);
-    let at = output::put_bytes(out, len, &bytes).used(len);
+    let at = output::put_bytes(out, len, &name(first)).used(len);
     put_all_spaced(out, at, squares::without(set, first))
 }

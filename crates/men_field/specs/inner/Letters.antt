@@ -2,7 +2,6 @@
 use Rattle.std.specs.Prelude.{Bool, cond, List, ℕ, ◌+◌, ◌-◌, ◌*◌, ◌/◌, ◌%◌, eqb, leb, ltb, get_or}
 use Rattle.squares.specs.Tests.{◌and◌}
 use Rattle.squares.specs.Squares.{file, rank}
-use Rattle.geometry.specs.declared.Color.TheVariants.{White, Black}
 use Rattle.laws.specs.Men.{Man, empty, man_of, Men}
 
 -- the number (`manNumber`) of a letter's man, 0 for a byte that is none

@@ -1,10 +1,7 @@
 use mathlib.Core.Path.{◌≡◌}
-use Prim.Native.Nat.{◌-◌, ◌≤◌}
+use Prim.Native.Nat.{◌-◌}
 use Rattle.chunks.specs.Newlines.{stop_from}
 use Rattle.chunks.proofs.inner.find.Given as goal
 
 abbrev pub invariant-loop-i : goal.invariant-loop-i
-invariant-loop-i l = (l.at ≤ l.i) × (l.i ≤ l.end) × (stop_from l.s l.at (l.end - l.at) ≡ stop_from l.s l.i (l.end - l.i))
-
-abbrev pub decreases-loop-i : goal.decreases-loop-i
-decreases-loop-i l = l.end - l.i
+invariant-loop-i l = stop_from l.s l.at (l.end - l.at) ≡ stop_from l.s l.i (l.end - l.i)

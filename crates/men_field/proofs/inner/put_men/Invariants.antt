@@ -1,10 +1,7 @@
-use Prim.Native.Nat.{◌+◌, ◌-◌, ◌*◌, ◌≤◌}
+use Prim.Native.Nat.{◌+◌, ◌*◌, ◌≤◌}
 use Rattle.laws.specs.Boards.{men_at}
 use Rattle.men_field.proofs.Adding.{Ranks}
 use Rattle.men_field.proofs.inner.put_men.Given as goal
 
 abbrev pub invariant-loop-rank : goal.invariant-loop-rank
-invariant-loop-rank l = (l.rank ≤ 7) × Ranks l.line (men_at l.pieces l.colors) l.rank × (l.line.len + 9 * l.rank ≤ 71)
-
-abbrev pub decreases-loop-rank : goal.decreases-loop-rank
-decreases-loop-rank l = l.rank
+invariant-loop-rank l = Ranks l.line (men_at l.pieces l.colors) l.rank × (l.line.len + 9 * l.rank ≤ 71)

@@ -1,4 +1,3 @@
-use Prim.Native.Nat.{◌-◌}
 use lib.ListN.{get_or}
 use Rattle.men_field.specs.inner.Letters.{place_of, belongs}
 use Rattle.squares.proofs.Collect.{Collected}
@@ -6,6 +5,3 @@ use Rattle.men_field.proofs.inner.set_of.Given as goal
 
 abbrev pub invariant-loop-k : goal.invariant-loop-k
 invariant-loop-k l = Collected (λ a. belongs l.w (get_or l.men (place_of a) 0)) l.r l.k
-
-abbrev pub decreases-loop-k : goal.decreases-loop-k
-decreases-loop-k l = 64 - l.k

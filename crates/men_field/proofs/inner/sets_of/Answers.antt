@@ -10,6 +10,6 @@ pub returns : goal.returns
 unfolding kind_sets color_sets
 returns c =
     let l = c.args.men in (
-      simp (c.set_of-p.ensures ∙ kind_set l Pawn, c.set_of-n.ensures ∙ kind_set l Knight, c.set_of-b.ensures ∙ kind_set l Bishop, c.set_of-r.ensures ∙ kind_set l Rook, c.set_of-q.ensures ∙ kind_set l Queen, c.set_of-k.ensures ∙ kind_set l King),
-      simp (c.set_of-white.ensures ∙ color_set l White, c.set_of-black.ensures ∙ color_set l Black),
+      simp (c.set_of.ensures ∙ kind_set l Pawn, c.set_of-2.ensures ∙ kind_set l Knight, c.set_of-3.ensures ∙ kind_set l Bishop, c.set_of-4.ensures ∙ kind_set l Rook, c.set_of-5.ensures ∙ kind_set l Queen, c.set_of-6.ensures ∙ kind_set l King),
+      simp (c.set_of-7.ensures ∙ color_set l White, c.set_of-8.ensures ∙ color_set l Black),
     )

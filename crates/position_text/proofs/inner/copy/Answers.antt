@@ -4,14 +4,8 @@ use Prim.Native.Nat.{◌≤◌}
 use native.Mathlib.Omega.{arith}
 use lib.ListN.{length}
 use borrow.Author.Rules.{rules}
-use Rattle.position_text.proofs.Bytes.{fits, room, all}
+use Rattle.position_text.proofs.Bytes.{room, all}
 use Rattle.position_text.proofs.inner.copy.Goals as goal
-
-pub fill-requires : goal.fill-requires
-fill-requires c =
-    let l : c.args.line.len ≤ length c.args.line.bytes = (let e : length c.args.line.bytes ≡ 81 = search rules in omega arith) in
-    let f = fits c.args.line.bytes c.args.out.now c.args.line.len c.written-w.result l c.written-w.ensures in
-    (omega arith, f.1)
 
 pub returns-then-have-n : goal.returns-then-have-n
 returns-then-have-n c =

@@ -1,9 +1,0 @@
--- `chunks::inner::ending_at` meets its contract.
-use borrow.Author.Tests.{lt-ltb, le-ltb}
-use Rattle.chunks.proofs.inner.ending_at.Goals as goal
-
-pub returns-then-stop-end : goal.returns-then-stop-end
-returns-then-stop-end c = simp (lt-ltb _ _ c.if-stop-end.true)
-
-pub returns-else-stop-end : goal.returns-else-stop-end
-returns-else-stop-end c = simp (le-ltb _ _ c.if-stop-end.false)
