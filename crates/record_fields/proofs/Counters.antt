@@ -7,7 +7,6 @@ use native.Mathlib.Omega.{arith}
 use lib.Dec.{leb}
 use lib.ListN.{length}
 use borrow.Author.Tests.{le-leb, lt-leb, leb-true, leb-false, lt-ltb, ltb-true}
-use Rattle.squares.specs.Tests.{◌and◌}
 use Rattle.squares.proofs.Testing.{both, left, right}
 use Rattle.rows.specs.Rows.{decimal_of}
 use Rattle.rows.proofs.Decimals.{few_digits}

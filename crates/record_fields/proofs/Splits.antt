@@ -1,13 +1,11 @@
 -- A record is cut at its last two spaces, and in no other way.
 use mathlib.Core.Path.{◌≡◌, refl, sym, ◌∙◌, ap, ap₂, subst}
-use mathlib.Core.Bool.{Bool, true, false}
 use mathlib.Core.List.{List, [], ◌∷◌, ◌++◌}
 use Prim.Native.Nat.{ℕ, suc, ◌+◌, ◌-◌, ◌≤◌, ◌<◌}
 use native.Mathlib.Omega.{arith}
-use lib.Dec.{leb}
 use lib.ListN.{length, get_or, take, drop, length-drop}
 use lib.Seq.{drop-cons, length-take-le, get_or-drop, get_or-take, take-add}
-use borrow.Author.Tests.{leb-true, leb-false}
+use Rattle.std.specs.Prelude.{◌≢◌, All}
 use Rattle.rows.specs.Rows.{decimal_of}
 use Rattle.record_fields.specs.inner.Splitting.{Cut}
 use Rattle.record_fields.proofs.Decimals.{Digits, dec_digits}
@@ -69,11 +67,21 @@ module _ (t : List ℕ) (n r : ℕ) (fit : n ≤ length t) (c : Cut t n r) where
   pub free_whole : r ≡ 0 → Free (take n t)
   free_whole e = let z : n - r ≡ n = omega arith in subst Free (ap₂ (λ (x y : ℕ). take x (drop y t)) z e) free_part
 
--- one byte more that is no space, in front
-pub free_more : (t : List ℕ) (n i : ℕ) → 0 < i → ((k : ℕ) → i ≤ k → k < n → get_or t k 0 ≡ 32 → ⊥) → (get_or t (i - 1) 0 ≡ 32 → ⊥)
-    → (k : ℕ) → i - 1 ≤ k → k < n → get_or t k 0 ≡ 32 → ⊥
-free_more t n i z f g k h l e = go (leb i k) refl
-  where
-    go : (x : Bool) → leb i k ≡ x → ⊥
-    go true q = f k (leb-true i k q) l e
-    go false q = let y : k ≡ i - 1 = omega (arith, leb-false i k q) in g (ap (λ (j : ℕ). get_or t j 0) (sym y) ∙ e)
+-- the last space before n, sought among the bytes up to there
+module _ (t : List ℕ) (n : ℕ) (fit : n ≤ length t) where
+  pub cut_there : (i : ℕ) → i < length (take n t) → get_or (take n t) i 0 ≡ 32 → ((k : ℕ) → i + 1 ≤ k → k < length (take n t) → get_or (take n t) k 0 ≢ 32) → Cut t n (i + 1)
+  cut_there i h e f =
+      let l : length (take n t) ≡ n = length-take-le n t fit in
+      let z : i + 1 - 1 ≡ i = omega arith in
+      record {
+        inside = omega arith;
+        free = λ k a b q. f k a (omega arith) (get_or-take n t k 0 b ∙ q);
+        edge = λ p. ap (λ (j : ℕ). get_or t j 0) z ∙ sym (get_or-take n t i 0 (omega arith)) ∙ e;
+      }
+
+  pub cut_none : All (λ b. b ≢ 32) (take n t) → Cut t n 0
+  cut_none f = record {
+    inside = omega arith;
+    free = λ k a b q. f k 0 (omega (arith, length-take-le n t fit)) (get_or-take n t k 0 b ∙ q);
+    edge = λ z. absurd (omega arith);
+  }

@@ -13,14 +13,10 @@ pub fn last(t: &[u8], n: usize) -> usize
     requires { n ≤ length t.now }
     ensures { Cut t.now n result }
 {
-    let mut i = n;
-    while 0 < i {
-        if t[i - 1] == b' ' {
-            return i;
-        }
-        i -= 1;
+    match t[..n].iter().rposition(|b| *b == b' ') {
+        Some(i) => i + 1,
+        None => 0,
     }
-    i
 }
 
 // One more byte of a counter, of which `s` was read: 10,001 stands for no byte yet, 10,002 for no counter.
@@ -45,8 +41,7 @@ fn count_step(s: u16, b: u8) -> u16
     if s == 0 {
         return 10002;
     }
-    let v = 10 * (s as u32) + d;
-    if v < 10000 { v as u16 } else { 10000 }
+    (10 * s as u32 + d).min(10000) as u16
 }
 
 // The value of a counter, 10,000 where it is larger, however many digits it has, and more than that where there is no counter.
@@ -54,10 +49,8 @@ pub fn count(t: &[u8]) -> u16
     ensures { Counted t.now result }
 {
     let mut s = 10001;
-    let mut i = 0;
-    while i < t.len() {
-        s = count_step(s, t[i]);
-        i += 1;
+    for &b in t {
+        s = count_step(s, b);
     }
     s
 }
@@ -71,11 +64,7 @@ pub fn in_range(half: u16, full: u16) -> bool
 pub fn is_known(e: EnPassantFlag) -> bool
     ensures { result ≡ is_known e }
 {
-    match e {
-        EnPassantFlag::Any => false,
-        EnPassantFlag::None => true,
-        EnPassantFlag::Some(_) => true,
-    }
+    !matches!(e, EnPassantFlag::Any)
 }
 
 // The state of the pawn that passed over a square; unknown where no pawn did.

@@ -1,8 +1,7 @@
 -- The texts of a list's members, added one after the other.
-use mathlib.Core.Path.{◌≡◌, sym, ◌∙◌, ap, ap₂, subst}
+use mathlib.Core.Path.{◌≡◌, sym, ◌∙◌, ap, subst}
 use mathlib.Core.List.{List, [], ◌∷◌, ◌++◌, append-nil}
-use Prim.Native.Nat.{ℕ, ◌+◌, ◌*◌, ◌≤◌, ◌<◌}
-use native.Mathlib.Nat.{mul-add}
+use Prim.Native.Nat.{ℕ, ◌+◌, ◌≤◌, ◌<◌}
 use native.Mathlib.Numerals.{add-one}
 use native.Mathlib.Omega.{arith}
 use lib.ListN.{length, get_or, take, drop, length-append, take-append-drop}
@@ -32,7 +31,3 @@ module _ (f : ℕ → List ℕ) (l : List ℕ) (i : ℕ) (h : i < length l) wher
   adds_next o x y len r s room p q =
       subst (λ (t : List ℕ). Adds o len t s y) (sym concat_next)
       (adds_then o x y (concat f (take i l)) (f (get_or l i 0)) len r s (omega (arith, short)) p q)
-
-  -- n rows of d bytes, and k more
-  pub count_next : (d n k : ℕ) → d * n ≡ length (concat f (take i l)) → d * k ≡ length (f (get_or l i 0)) → d * (n + k) ≡ length (concat f (take (i + 1) l))
-  count_next d n k a b = mul-add d n k ∙ ap₂ ◌+◌ a b ∙ sym (ap length concat_next ∙ length-append (concat f (take i l)) (f (get_or l i 0)))

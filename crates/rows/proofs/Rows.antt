@@ -2,12 +2,14 @@
 use mathlib.Core.Path.{◌≡◌, refl, ◌∙◌, ap, ap₂}
 use mathlib.Core.Bool.{Bool, true, false, cond}
 use mathlib.Core.List.{List, [], ◌∷◌, ◌++◌}
-use Prim.Native.Nat.{ℕ, zero, suc, ◌+◌, ◌*◌, ◌≤◌, ◌<◌}
-use native.Mathlib.Numerals.{add-one}
+use Prim.Native.Nat.{ℕ, zero, suc, ◌+◌, ◌*◌, ◌≤◌}
 use native.Mathlib.Omega.{arith}
+use lib.Dec.{eqb}
 use lib.ListN.{length, get_or, drop, length-append}
-use lib.Seq.{drop-cons, drop-length}
-use borrow.Author.Tests.{eq-eqb, ne_eqb}
+use lib.Seq.{drop-length}
+use Rattle.std.specs.Prelude.{not, count_by}
+use Rattle.std.specs.List.{list_any}
+use Rattle.std.proofs.lemmas.List.Sums.{sum_by-cons}
 use Rattle.squares.specs.Tests.{◌or◌}
 use Rattle.squares.specs.Squares.{file, rank}
 use Rattle.squares.specs.Members.{concat}
@@ -15,16 +17,13 @@ use Rattle.laws.specs.declared.ChessRetraction.{ChessRetraction}
 use Rattle.laws.specs.Retractions.{unpacked}
 use Rattle.men_field.specs.Placement.{square_name}
 use Rattle.rows.specs.Rows.{uncaptured_letter, mark_byte, fields_by, row_by, row_of, is_in, plus, minus, star, listed_row}
+use Rattle.rows.specs.inner.Marked.{marked, strict_by}
 
--- the search stands on the slot, or goes on past another
-module _ (slot : ℕ) (l : List ℕ) (i : ℕ) (h : i < length l) where
-  pub in_here : get_or l i 0 ≡ slot → is_in slot (drop i l) ≡ true
-  unfolding is_in ◌or◌
-  in_here e = rw (drop-cons l i 0 h, eq-eqb (get_or l i 0) slot e)
-
-  pub in_later : (get_or l i 0 ≡ slot → ⊥) → is_in slot (drop i l) ≡ is_in slot (drop (i + 1) l)
-  unfolding is_in ◌or◌
-  in_later e = rw (drop-cons l i 0 h, ne_eqb (get_or l i 0) slot e, add-one)
+-- the search for a slot, in the library's words
+pub in_any : (slot : ℕ) (l : List ℕ) → list_any (λ x. eqb x slot) l ≡ is_in slot l
+unfolding is_in ◌or◌
+in_any slot [] = refl
+in_any slot (x ∷ l) = ap (λ (b : Bool). eqb x slot or b) (in_any slot l)
 
 pub in_none : (slot : ℕ) (l : List ℕ) (i : ℕ) → i ≤ length l → length l ≤ i → is_in slot (drop i l) ≡ false
 unfolding is_in
@@ -64,3 +63,20 @@ pub listed_size : (strict l : List ℕ) → length (concat (listed_row strict) l
 unfolding concat
 listed_size strict [] = refl
 listed_size strict (x ∷ l) = omega (arith, length-append (listed_row strict x) (concat (listed_row strict) l), listed_size strict l)
+
+-- and each strict one that is not listed
+pub strict_size : (listed l : List ℕ) → 11 * count_by (λ slot. not (marked listed slot)) l ≡ length (concat (strict_by listed) l)
+unfolding concat
+strict_size listed [] = refl
+strict_size listed (x ∷ l) =
+    omega (
+      arith,
+      sum_by-cons (λ slot. cond (not (marked listed slot)) 1 0) x l,
+      length-append (strict_by listed x) (concat (strict_by listed) l),
+      row (marked listed x),
+      strict_size listed l,
+    )
+  where
+    row : (t : Bool) → length (cond t [] (row_of x star)) ≡ 11 * cond (not t) 1 0
+    row true = refl
+    row false = refl

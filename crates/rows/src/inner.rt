@@ -11,14 +11,7 @@ use laws::ChessRetraction;
 pub fn contains(slots: &[u16], slot: u16) -> bool
     ensures { result ≡ is_in slot slots.now }
 {
-    let mut i = 0;
-    while i < slots.len() {
-        if slots[i] == slot {
-            return true;
-        }
-        i += 1;
-    }
-    false
+    slots.contains(&slot)
 }
 
 // A slot more in a set of slots, which has a bit for each: 1,024 words hold the 65,536.
@@ -27,7 +20,7 @@ fn mark_slot(set: &mut [u64; 1024], slot: u16)
     ensures { Marks set.old slot set.new }
 {
     let w = (slot / 64) as usize;
-    set[w] = set[w] | squares::bit((slot % 64) as u8);
+    set[w] |= squares::bit((slot % 64) as u8);
 }
 
 // The slots of a list, in a set that was empty.
@@ -35,10 +28,8 @@ pub fn mark_all(slots: &[u16], set: &mut [u64; 1024])
     requires { MarksOf [] set.old }
     ensures { MarksOf slots.now set.new }
 {
-    let mut i = 0;
-    while i < slots.len() {
-        mark_slot(set, slots[i]);
-        i += 1;
+    for &slot in slots {
+        mark_slot(set, slot);
     }
 }
 
@@ -128,10 +119,8 @@ pub fn put_listed_by(out: &mut [u8], len: usize, listed: &[u16], strict: &[u64; 
     ensures { Adds out.old len (concat (listed_by strict.now) listed.now) result out.new }
 {
     let mut at = len;
-    let mut i = 0;
-    while i < listed.len() {
-        at = put_listed_row(out, at, listed[i], strict);
-        i += 1;
+    for &slot in listed {
+        at = put_listed_row(out, at, slot, strict);
     }
     at
 }
@@ -146,16 +135,15 @@ pub fn put_listed(out: &mut [u8], len: usize, listed: &[u16], strict: &[u16]) ->
     put_listed_by(out, len, listed, &in_strict)
 }
 
-// Each strict retraction that is not listed, in strict order.
+// Each strict retraction that is not listed, in strict order. One function for this and `put_listed_by` would be no plainer: they share the
+// walk alone, and it would take a row's sign, or none, for either answer of the set.
 pub fn put_strict_by(out: &mut [u8], len: usize, strict: &[u16], listed: &[u64; 1024]) -> usize
     requires { len + length (concat (strict_by listed.now) strict.now) ≤ length out.old }
     ensures { Adds out.old len (concat (strict_by listed.now) strict.now) result out.new }
 {
     let mut at = len;
-    let mut i = 0;
-    while i < strict.len() {
-        at = put_strict_row(out, at, strict[i], listed);
-        i += 1;
+    for &slot in strict {
+        at = put_strict_row(out, at, slot, listed);
     }
     at
 }
@@ -170,27 +158,14 @@ pub fn put_strict(out: &mut [u8], len: usize, strict: &[u16], listed: &[u16]) ->
     put_strict_by(out, len, strict, &in_listed)
 }
 
-// How many rows a strict retraction has: none where it is listed.
-fn rows_of(slot: u16, listed: &[u64; 1024]) -> usize
-    ensures { (11 * result ≡ length (strict_by listed.now slot)) × (result ≤ 1) }
-{
-    if is_marked(listed, slot) {
-        return 0;
-    }
-    1
-}
-
 // How many rows `put_strict_by` writes. A row has 11 bytes.
 pub fn count_strict_by(strict: &[u16], listed: &[u64; 1024]) -> usize
     ensures { 11 * result ≡ length (concat (strict_by listed.now) strict.now) }
 {
-    let mut n: usize = 0;
-    let mut i = 0;
-    while i < strict.len() {
-        n += rows_of(strict[i], listed);
-        i += 1;
-    }
-    n
+    strict
+        .iter()
+        .filter(|slot| !is_marked(listed, **slot))
+        .count()
 }
 
 // The same by the list of the listed ones: how many rows `put_strict` writes.
@@ -226,12 +201,5 @@ pub fn put_top(out: &mut [u8; 256], a: u64, b: u64, checkers: u64) -> usize
 pub fn size(head: usize, a: usize, b: usize) -> usize
     ensures { result ≡ min (head + 11 * a + 11 * b) 18446744073709551615 }
 {
-    let rows = (usize::MAX - head) / 11;
-    if rows < a {
-        return usize::MAX;
-    }
-    if rows - a < b {
-        return usize::MAX;
-    }
-    head + 11 * (a + b)
+    a.saturating_add(b).saturating_mul(11).saturating_add(head)
 }

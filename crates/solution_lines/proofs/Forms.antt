@@ -15,7 +15,7 @@ use Rattle.solution_lines.specs.Lines.{lines_of, line_at, Says, NoneOf, FirstOf,
 use Rattle.solution_lines.specs.inner.Reading.{leniently}
 use Rattle.squares.proofs.Testing.{failed, granted}
 use Rattle.solution_lines.proofs.Inverse.{says_read}
-use Rattle.solution_lines.proofs.Walking.{Through, there, line_is, first_so, one_more, walked, none_walked, first_one}
+use Rattle.solution_lines.proofs.Walking.{Through, line_is, first_so, one_more, walked, none_walked, first_one}
 
 -- a turn of the loop: t says whether the line is in form
 module _ (s : List ℕ) (at n : ℕ) (x : Through (OutOfForm (lines_of s)) s at n) (h : at < length s) (stop : ℕ) (e : stop ≡ stop_from s at (length s - at)) (t : Bool)
@@ -36,9 +36,6 @@ module _ (s : List ℕ) (at n : ℕ) (x : Through (OutOfForm (lines_of s)) s at 
 
   pub goes_on : not t ≡ false → (next : ℕ) → next ≡ cond (ltb stop (length s)) (stop + 1) (length s) → Through (OutOfForm (lines_of s)) s next (n + 1)
   goes_on z = one_more (OutOfForm (lines_of s)) s at n x h stop e (in_form_lem z)
-
-  pub tells_many : not t ≡ false → 4096 ≤ n → TellsForm (lines_of s) Many
-  tells_many z m = (omega (arith, there (OutOfForm (lines_of s)) s at n x h stop e), λ i l. (goes_on z _ refl).none i (omega arith))
 
 pub tells_all : (s : List ℕ) (at n : ℕ) → Through (OutOfForm (lines_of s)) s at n → at ≤ length s → length s ≤ at → n ≤ 4096 → TellsForm (lines_of s) All
 tells_all s at n x h k m = (omega (arith, walked (OutOfForm (lines_of s)) s at n x h k), none_walked (OutOfForm (lines_of s)) s at n x h k)

@@ -1,13 +1,12 @@
 -- A line says one retraction, the one that is read: the reader inverts the printer.
-use mathlib.Core.Path.{◌≡◌, refl, sym, ap, ap₂, ◌∙◌, subst}
-use mathlib.Core.Logic.{◌⊎◌, inl, inr, ◌↔◌}
+use mathlib.Core.Path.{◌≡◌, refl, sym, ap, ap₂, ◌∙◌}
+use mathlib.Core.Logic.{◌⊎◌, inl, inr}
 use mathlib.Core.Bool.{Bool, true, false, cond}
 use mathlib.Core.List.{List, [], ◌∷◌}
 use Prim.Native.Nat.{ℕ, zero, suc, ◌+◌, ◌/◌, ◌%◌, ◌≤◌, ◌<◌}
 use native.Mathlib.Omega.{arith}
 use lib.Dec.{eqb}
-use lib.ListN.{length, get_or}
-use lib.Seq.{ext_get_or}
+use lib.ListN.{get_or}
 use borrow.Author.Tests.{ne_eqb, eqb-true, eqb-false}
 use Rattle.laws.specs.declared.ChessRetraction.{ChessRetraction}
 use Rattle.laws.specs.Retractions.{InRange}
@@ -89,12 +88,6 @@ pub letter_none : (b : ℕ) → (b ≡ 80 → ⊥) → (b ≡ 78 → ⊥) → (b
 unfolding letter_number
 letter_none b p n s r q = rw (ne_eqb b 80 p, ne_eqb b 78 n, ne_eqb b 66 s, ne_eqb b 82 r, ne_eqb b 81 q)
 
--- past the end of a line there is no byte
-pub none_there : (l : List ℕ) (i : ℕ) → length l ≤ i → 0 ≡ get_or l i 0
-none_there [] i h = refl
-none_there (b ∷ l) zero h = absurd (omega arith)
-none_there (b ∷ l) (suc i) h = none_there l i (omega arith)
-
 -- the bytes that are read, one by one
 pub read_is : (l : List ℕ) {s t u b0 b1 b2 b3 b5 b7 : ℕ} → b0 ≡ get_or l 0 0 → b1 ≡ get_or l 1 0 → b2 ≡ get_or l 2 0 → b3 ≡ get_or l 3 0 → b5 ≡ get_or l 5 0 → b7 ≡ get_or l 7 0
     → s ≡ square_from b0 b1 → t ≡ square_from b2 b3 → u ≡ letter_number b5 → record { source = s; target = t; uncaptured = u; unpromotion = eqb b7 61 } ≡ leniently l
@@ -106,21 +99,3 @@ read_is l e0 e1 e2 e3 e5 e7 es et eu =
       uncaptured = (eu ∙ ap letter_number e5) i;
       unpromotion = ap (λ (b : ℕ). eqb b 61) e7 i;
     }
-
--- eight bytes compared with a line
-module _ (a l : List ℕ) (e : length a ≡ 8) where
-  pub not_eight : (length l ≡ 8 → ⊥) → (false ≡ true) ↔ (a ≡ l)
-  not_eight f = ((λ z. absurd (omega (arith, (let w : ◌≡◌ {A = ℕ} 0 1 = cc in w)))), (λ q. absurd (f (sym (ap length q) ∙ e))))
-
-  pub not_same : (i : ℕ) → (get_or a i 0 ≡ get_or l i 0 → ⊥) → (false ≡ true) ↔ (a ≡ l)
-  not_same i f = ((λ z. absurd (omega (arith, (let w : ◌≡◌ {A = ℕ} 0 1 = cc in w)))), (λ q. absurd (f (ap (λ (x : List ℕ). get_or x i 0) q))))
-
-  pub all_same : length l ≡ 8 → ((k : ℕ) → k < length a → get_or a k 0 ≡ get_or l k 0) → (true ≡ true) ↔ (a ≡ l)
-  all_same h f = ((λ _. ext_get_or 0 a l (e ∙ sym h) f), (λ _. refl))
-
--- the line is what is printed of the retraction that is read
-pub formed_is : (l : List ℕ) (a : List ℕ) (r : ChessRetraction) (b : Bool) → (r ≡ leniently l) × InRange r → a ≡ fields_by r → (b ≡ true) ↔ (a ≡ l) → (b ≡ true) ↔ Says (leniently l) l
-formed_is l a r b h e t = (
-  (λ z. (subst InRange h.0 h.1, sym (ap fields_by h.0) ∙ sym e ∙ t.0 z)),
-  (λ z. t.1 (e ∙ ap fields_by h.0 ∙ z.1)),
-)

@@ -29,10 +29,7 @@ fn letter_number(b: u8) -> u8
 fn byte_at(l: &[u8], i: usize) -> u8
     ensures { result ≡ get_or l.now i 0 }
 {
-    if i < l.len() {
-        return l[i];
-    }
-    0
+    l.get(i).copied().unwrap_or(0)
 }
 
 // The retraction that a line in form says; of any other line some retraction.
@@ -51,26 +48,10 @@ pub fn read_line(l: &[u8]) -> ChessRetraction
     }
 }
 
-fn same(a: [u8; 8], l: &[u8]) -> bool
-    ensures { (result ≡ true) ↔ (a ≡ l.now) }
-{
-    if l.len() != 8 {
-        return false;
-    }
-    let mut i = 0;
-    while i < 8 {
-        if a[i] != l[i] {
-            return false;
-        }
-        i += 1;
-    }
-    true
-}
-
 // Whether a line is what is printed of the retraction that it would say.
 pub fn is_formed(l: &[u8]) -> bool
     ensures { (result ≡ true) ↔ Says (leniently l.now) l.now }
 {
-    let r = read_line(l);
-    same(rows::inner::fields_of(r), l)
+    let fields = rows::inner::fields_of(read_line(l));
+    l == &fields[..]
 }

@@ -20,17 +20,16 @@ pub fn form_of(lines: &[u8]) -> Formed
     ensures { TellsForm (lines_of lines.now) result }
 {
     let mut at = 0;
-    let mut n = 0;
-    while at < lines.len() {
+    // A turn for each line that may stand, and one for a line too many.
+    for n in 0..MOST_LINES + 1 {
+        if at == lines.len() {
+            return Formed::All;
+        }
         let stop = chunks::inner::find(lines, at, lines.len());
         if !inner::is_formed(&lines[at..stop]) {
             return Formed::Line(n + 1);
         }
-        if n >= MOST_LINES {
-            return Formed::Many;
-        }
         at = chunks::inner::past(stop, lines.len());
-        n += 1;
     }
-    Formed::All
+    Formed::Many
 }

@@ -21,8 +21,5 @@ pub returns-then-s-eq10001 : goal.returns-then-s-eq10001
 unfolding count_step
 returns-then-s-eq10001 c = (simp (ne_eqb _ _ c.if-s-eq10002.false, le-ltb _ _ c.if-b-lt48.false, le-ltb _ _ c.if-b-gt57.false, eq-eqb _ _ c.if-s-eq10001.true), omega arith)
 
-pub returns-then-v-lt10000 : goal.returns-then-v-lt10000
-returns-then-v-lt10000 c = (omega (arith, step_value c.args.s c.args.b c.if-s-eq10002.false (omega arith) (omega arith) c.if-s-eq10001.false (λ e. omega arith)), omega arith)
-
-pub returns-else-v-lt10000 : goal.returns-else-v-lt10000
-returns-else-v-lt10000 c = (omega (arith, step_value c.args.s c.args.b c.if-s-eq10002.false (omega arith) (omega arith) c.if-s-eq10001.false (λ e. omega arith)), omega arith)
+pub returns : goal.returns
+returns c = (omega (arith, step_value c.args.s c.args.b c.if-s-eq10002.false (omega arith) (omega arith) c.if-s-eq10001.false (λ e. omega arith)), omega arith)

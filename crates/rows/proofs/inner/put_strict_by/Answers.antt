@@ -9,15 +9,12 @@ use Rattle.output.proofs.Adding.{adds_as, adds_nothing}
 use Rattle.rows.proofs.Adding.{adds_next}
 use Rattle.rows.proofs.inner.put_strict_by.Goals as goal
 
-pub loop-i-init : goal.loop-i-init
+pub loop-slot-init : goal.loop-slot-init
 unfolding concat
-loop-i-init c = (omega arith, adds_nothing c.args.out.now c.args.len, refl)
+loop-slot-init c = (adds_nothing c.args.out.now c.args.len, refl)
 
-pub loop-i-preserved : goal.loop-i-preserved
-loop-i-preserved c = (omega arith, adds_next (strict_by c.args.listed.now) c.args.strict.now c.loop-i.i c.loop-i-test.true _ _ _ _ _ _ c.requires c.loop-i.invariant.1 c.put_strict_row-at.ensures, search rules)
-
-pub shape_of-out : goal.shape_of-out
-shape_of-out c = c.loop-i.invariant.2
+pub loop-slot-preserved : goal.loop-slot-preserved
+loop-slot-preserved c = (adds_next (strict_by c.args.listed.now) c.args.strict.now c.loop-slot.slot-index (omega arith) _ _ _ _ _ _ c.requires c.loop-slot.invariant.0 c.put_strict_row-at.ensures, search rules)
 
 pub returns : goal.returns
-returns c = adds_as _ _ _ _ _ _ c.loop-i.invariant.1 (ap (concat (strict_by c.args.listed.now)) (take_all c.loop-i.i c.args.strict.now (omega arith)))
+returns c = adds_as _ _ _ _ _ _ c.loop-slot.invariant.0 (ap (concat (strict_by c.args.listed.now)) (take_all c.loop-slot.slot-index c.args.strict.now (omega arith)))

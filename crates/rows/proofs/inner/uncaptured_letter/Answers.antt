@@ -1,4 +1,5 @@
 -- `rows::inner::uncaptured_letter` meets its contract.
+use native.Mathlib.Omega.{arith}
 use Rattle.rows.specs.Rows.{uncaptured_letter}
 use Rattle.rows.proofs.Rows.{letter_none}
 use Rattle.rows.proofs.inner.uncaptured_letter.Goals as goal
@@ -24,4 +25,4 @@ unfolding uncaptured_letter
 returns-in-5 c = rw c.in-5.is
 
 pub returns-in_default : goal.returns-in_default
-returns-in_default c = letter_none _ c.in_default.in_default-own.rest.0.0.0.0.1 c.in_default.in_default-own.rest.0.0.0.1 c.in_default.in_default-own.rest.0.0.1 c.in_default.in_default-own.rest.0.1 c.in_default.in_default-own.rest.1
+returns-in_default c = letter_none _ (λ e. omega arith) (λ e. omega arith) (λ e. omega arith) (λ e. omega arith) (λ e. omega arith)

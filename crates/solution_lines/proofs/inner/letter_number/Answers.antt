@@ -25,4 +25,4 @@ unfolding letter_number
 returns-in-81 c = (rw c.in-81.is, omega arith)
 
 pub returns-in_default : goal.returns-in_default
-returns-in_default c = (letter_none _ c.in_default.in_default-own.rest.0.0.0.0.1 c.in_default.in_default-own.rest.0.0.0.1 c.in_default.in_default-own.rest.0.0.1 c.in_default.in_default-own.rest.0.1 c.in_default.in_default-own.rest.1, omega arith)
+returns-in_default c = (letter_none _ (λ e. omega arith) (λ e. omega arith) (λ e. omega arith) (λ e. omega arith) (λ e. omega arith), omega arith)
