@@ -1,10 +1,9 @@
 -- `listing::inner::fill_entry` meets its contract.
-use mathlib.Core.Path.{refl, sym, ap, subst}
+use mathlib.Core.Path.{sym, ap, subst}
 use mathlib.Core.Bool.{Bool, not}
 use mathlib.Core.List.{List}
 use Prim.Native.Nat.{ℕ, ◌+◌, ◌≤◌, ◌<◌}
 use lib.ListN.{length}
-use borrow.Author.Rules.{rules}
 use Rattle.squares.specs.Tests.{◌and◌}
 use Rattle.laws.specs.declared.ChessRetraction.{ChessRetraction}
 use Rattle.squares.proofs.Turns.{taken_lt}
