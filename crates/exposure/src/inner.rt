@@ -45,12 +45,9 @@ fn leaving_open(t: &[u64; 4096], from: u64, k: u8) -> u64
     requires { IsBetween t.now × (k < 64) }
     ensures { result ≡ set_of (united (λ a j. not (between a k j)) from) }
 {
-    let mut left = from;
     let mut r: u64 = 0;
-    while left != 0 {
-        let a = squares::lowest(left);
-        r = r | !tables::inner::between(t, a, k);
-        left = squares::without(left, a);
+    for a in squares::each(from) {
+        r |= !tables::inner::between(t, a, k);
     }
     r
 }

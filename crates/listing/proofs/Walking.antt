@@ -1,16 +1,14 @@
 -- What is left of a target's, an entry's and a list's retractions after a turn of the loops.
 use mathlib.Core.Path.{◌≡◌, sym, ap, ◌∙◌}
-use mathlib.Core.Bool.{Bool}
+use mathlib.Core.Bool.{Bool, true}
 use mathlib.Core.List.{List, [], ◌∷◌, ◌++◌, map}
 use Prim.Native.Nat.{ℕ, suc, ◌+◌, ◌≤◌, ◌<◌, ◌^◌}
-use native.Mathlib.Nat.{le_trans}
 use native.Mathlib.Numerals.{add-one}
 use native.Mathlib.Omega.{arith}
-use lib.Dec.{lit≤}
 use lib.ListN.{length, get_or, take, drop, length-append, drop_of_length-le}
 use lib.Seq.{length-take-le, drop-cons, get_or-take}
-use Rattle.squares.specs.Squares.{set_of, besides}
-use Rattle.squares.specs.Members.{members, concat, lowest_of}
+use Rattle.squares.specs.Squares.{has}
+use Rattle.squares.specs.Members.{members, concat}
 use Rattle.laws.specs.declared.ChessRetraction.{ChessRetraction}
 use Rattle.laws.specs.Retractions.{InRange}
 use Rattle.retraction_list.specs.declared.SourceAndTargets.{SourceAndTargets}
@@ -19,44 +17,49 @@ use Rattle.retraction_list.specs.Entries.{no_entry}
 use Rattle.retraction_gen.specs.Sequence.{sequence_of}
 use Rattle.retraction_gen.proofs.Whole.{sound_at}
 use Rattle.squares.proofs.Comprehension.{member_below}
-use Rattle.squares.proofs.Members.{members_none, members_next, least_of}
+use Rattle.squares.proofs.Turns.{taken_in, kept_in}
 use Rattle.listing.specs.inner.Giving.{retraction, of_target, of_entry, entries_of, Sound}
 use Rattle.listing.proofs.Lengths.{sequence_fits}
 use Rattle.listing.proofs.Filling.{Filling, filling_room}
 
--- a set of numbers below 6
-pub below_fits : {s : ℕ} → s < 64 → s < 2 ^ 64
-below_fits h = le_trans h (lit≤ tt)
+-- each member is below 6
+abbrev pub Low : ℕ → Type 0
+Low s = (j : ℕ) → j < 64 → has s j ≡ true → j < 6
 
--- a turn that takes the lowest member
-module _ {left k next : ℕ} (h : left < 2 ^ 64) (some : left ≡ 0 → ⊥) (m : k ≡ lowest_of left) (n : next ≡ set_of (besides left k)) where
-  members_after : members left ≡ k ∷ members next
-  members_after = members_next left k (omega arith) (least_of h m) ∙ ap (λ (s : ℕ). k ∷ members s) (sym n)
+pub low_starts : {s : ℕ} → s < 64 → Low s
+low_starts {s} h j l = member_below {n = 6} {s = s} j h
 
+-- a turn that takes the member k
+module _ (left next : ℕ) {k : ℕ} (m : members left ≡ k ∷ members next) where
   pub target_after : (s : ℕ) (p : Bool) (t : ℕ) → of_target s p left t ≡ (retraction s p t k ∷ []) ++ of_target s p next t
   unfolding of_target
-  target_after s p t = ap (map (retraction s p t)) members_after
+  target_after s p t = ap (map (retraction s p t)) m
 
   pub entry_after : (f : ℕ → List ChessRetraction) → concat f (members left) ≡ f k ++ concat f (members next)
   unfolding concat
-  entry_after f = ap (concat f) members_after
+  entry_after f = ap (concat f) m
 
   pub entry_room : (f : ℕ → List ChessRetraction) {whole : List ChessRetraction} {s₀ : List ℕ} {n₀ : ℕ} {s : List ℕ} {m : ℕ} → Filling whole s₀ n₀ s m (concat f (members left))
       → m + length (f k) ≤ length s
   entry_room f g = filling_room g (f k) (concat f (members next)) (entry_after f)
 
-pub target_over : (s : ℕ) (p : Bool) (t : ℕ) {left : ℕ} → left ≡ 0 → of_target s p left t ≡ []
-unfolding of_target
-target_over s p t e = ap (λ (x : ℕ). of_target s p x t) e ∙ ap (map (retraction s p t)) members_none
+  pub low_on : Low left → Low next
+  low_on low j l h = low j l (kept_in left next m j l h)
 
-pub entry_over : (f : ℕ → List ChessRetraction) {left : ℕ} → left ≡ 0 → concat f (members left) ≡ []
-unfolding concat
-entry_over f e = ap (λ (x : ℕ). concat f (members x)) e ∙ ap (concat f) members_none
+  pub in_range : {s t : ℕ} {p : Bool} → s < 64 → t < 64 → Low left → InRange (retraction s p t k)
+  in_range h i low =
+      let taken = taken_in left m in
+      let below : k < 6 = low k taken.0 taken.1 in
+      record { source_in = h; target_in = i; uncaptured_in = omega arith }
 
-pub in_range : {s left u t : ℕ} {p : Bool} → s < 64 → t < 64 → left < 64 → (left ≡ 0 → ⊥) → u ≡ lowest_of left → InRange (retraction s p t u)
-in_range {s} {left} {u} h k l some m =
-    let below : u < 6 = member_below {n = 6} {s = left} u l ((least_of (below_fits l) m).some (omega arith)).1.member in
-    record { source_in = h; target_in = k; uncaptured_in = omega arith }
+module _ (left : ℕ) (e : members left ≡ []) where
+  pub target_over : (s : ℕ) (p : Bool) (t : ℕ) → of_target s p left t ≡ []
+  unfolding of_target
+  target_over s p t = ap (map (retraction s p t)) e
+
+  pub entry_over : (f : ℕ → List ChessRetraction) → concat f (members left) ≡ []
+  unfolding concat
+  entry_over f = ap (concat f) e
 
 -- the entries from i on
 module _ (ms : List ℕ) {l : RetractionList} (sound_list : Sound l) (i : ℕ) where

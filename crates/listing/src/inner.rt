@@ -85,18 +85,15 @@ fn fill_target(
     ensures { Fills (of_target source unpromotion us target) slots.old start slots.new result }
 {
     let mut n = start;
-    let mut left = us;
-    while left != 0 {
-        let u = squares::lowest(left);
+    for u in squares::each(us) {
         let r = ChessRetraction {
-            source: source,
-            target: target,
+            source,
+            target,
             uncaptured: u,
-            unpromotion: unpromotion,
+            unpromotion,
         };
         slots[n] = laws::inner::pack(r);
         n += 1;
-        left = squares::without(left, u);
     }
     n
 }
@@ -111,11 +108,8 @@ fn fill_entry(slots: &mut [u16], start: usize, masks: &[u64; 6], e: SourceAndTar
     let p = !retraction_gen::inner::is_un_en_passant(k) & e.unpromotion;
     let us = uncaptures(masks, e);
     let mut n = start;
-    let mut left = e.targets;
-    while left != 0 {
-        let target = squares::lowest(left);
+    for target in squares::each(e.targets) {
         n = fill_target(slots, n, s, p, us, target);
-        left = squares::without(left, target);
     }
     n
 }

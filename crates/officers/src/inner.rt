@@ -74,11 +74,8 @@ fn each(list: RetractionList, v: View, kind: usize, allowed: u64, set: u64) -> R
     ensures { result ≡ pushed_all list (each_of v kind allowed set) }
 {
     let mut out = list;
-    let mut left = set;
-    while left != 0 {
-        let src = squares::lowest(left);
+    for src in squares::each(set) {
         out = from(out, v, kind, allowed, src);
-        left = squares::without(left, src);
     }
     out
 }

@@ -139,11 +139,8 @@ fn each(list: RetractionList, t: &[u64; 4096], v: View, n: u32, set: u64) -> Ret
     ensures { result ≡ pushed_all list (concat (from_of v n) (members set)) }
 {
     let mut out = list;
-    let mut left = set;
-    while left != 0 {
-        let src = squares::lowest(left);
+    for src in squares::each(set) {
         out = from(out, t, v, n, src);
-        left = squares::without(left, src);
     }
     out
 }

@@ -52,12 +52,9 @@ fn shields(t: &[u64; 4096], pieces: [u64; 6], colors: [u64; 2], from: u64, q: u8
     requires { IsBetween t.now × Clean pieces colors × (q < 64) }
     ensures { result ≡ set_of (united (λ a. alone (men_at pieces colors) a q) from) }
 {
-    let mut left = from;
     let mut r: u64 = 0;
-    while left != 0 {
-        let a = squares::lowest(left);
-        r = r | lone(t, pieces, colors, a, q);
-        left = squares::without(left, a);
+    for a in squares::each(from) {
+        r |= lone(t, pieces, colors, a, q);
     }
     r
 }

@@ -14,7 +14,7 @@ use Rattle.retraction_list.specs.declared.RetractionList.{RetractionList}
 use Rattle.retraction_list.specs.Entries.{no_entry, holding}
 use Rattle.retraction_list.specs.inner.Pushing.{pushed, pushed_all}
 use Rattle.squares.proofs.Testing.{order}
-use Rattle.squares.proofs.Members.{Going, going_done}
+use Rattle.squares.proofs.Turns.{Going, going_done}
 
 -- one part after the other
 pub pushed_both : (l : RetractionList) (xs ys : List SourceAndTargets) → pushed_all (pushed_all l xs) ys ≡ pushed_all l (xs ++ ys)
@@ -32,7 +32,7 @@ unfolding for_each concat pushed_all
 pushed_each g l [] = refl
 pushed_each g l (k ∷ ks) = pushed_each g (pushed_all l (g k)) ks ∙ pushed_both l (g k) (concat g ks)
 
-pub pushing_done : (g : ℕ → List SourceAndTargets) {list out : RetractionList} {set left : ℕ} → Pushing g list set out left → left ≡ 0
+pub pushing_done : (g : ℕ → List SourceAndTargets) {list out : RetractionList} {set left : ℕ} → Pushing g list set out left → members left ≡ []
     → out ≡ pushed_all list (concat g (members set))
 pushing_done g {list} {out} {set} p e = going_done p e ∙ pushed_each g list (members set)
 

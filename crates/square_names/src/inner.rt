@@ -25,12 +25,8 @@ fn put_all_spaced(out: &mut [u8], len: usize, set: u64) -> usize
     ensures { Adds out.old len (concat spaced_name (members set)) result out.new }
 {
     let mut at = len;
-    let mut left = set;
-    // No `for`: the turns go from one of the set's squares to the next, with no number that counts them.
-    while left != 0 {
-        let k = squares::lowest(left);
+    for k in squares::each(set) {
         at = put_spaced(out, at, k);
-        left = squares::without(left, k);
     }
     at
 }

@@ -7,5 +7,6 @@ pub mod LeastMember
 pub mod Collect
 pub mod Shifts
 pub mod Singles
-pub mod Unions
 pub mod Members
+pub mod Turns
+pub mod Unions

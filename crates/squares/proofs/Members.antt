@@ -1,21 +1,20 @@
--- The members of a set as a list, and the law of a loop that takes the lowest member and goes on without it:
--- `while left != 0 { let k = lowest(left); x = f(x, k); left = without(left, k); }`.
+-- The members of a set as a list, and its lowest member.
 use mathlib.Core.Path.{◌≡◌, refl, sym, ap, ap₂, ◌∙◌, subst}
 use mathlib.Core.Logic.{◌⊎◌, inl, inr, ⊎_elim}
 use mathlib.Core.Bool.{Bool, true, false, not, cond}
 use mathlib.Core.List.{List, [], ◌∷◌, ◌++◌, append_assoc}
 use Prim.Native.Nat.{ℕ, zero, suc, ◌^◌, ◌<◌, ◌≤◌}
-use native.Mathlib.Nat.{le_refl, le-suc, le_trans, lt_trans, not-suc-le-zero}
+use native.Mathlib.Nat.{le_refl, le-suc, le_trans, not-suc-le-zero}
 use native.Mathlib.Omega.{arith}
 use lib.Count.{count_trailing_zeros}
 use borrow.Author.Tests.{eq-eqb, ne_eqb}
 use Rattle.squares.specs.Tests.{◌and◌}
 use Rattle.squares.specs.Squares.{has, set_of, besides}
-use Rattle.squares.specs.Members.{list_to, members, head_or, lowest_of, first_of, for_each, concat}
+use Rattle.squares.specs.Members.{list_to, members, head_or, lowest_of, first_of, concat}
 use Rattle.squares.proofs.Testing.{order, and_true, and_false}
 use Rattle.squares.proofs.Digits.{has_zero}
 use Rattle.squares.proofs.Comprehension.{has_set_of}
-use Rattle.squares.proofs.LeastMember.{LeastOr64, least_or_64, without_less}
+use Rattle.squares.proofs.LeastMember.{LeastOr64, least_or_64}
 
 -- no number passes: the empty list
 list_none : (n : ℕ) (p : ℕ → Bool) → ((k : ℕ) → k < n → p k ≡ false) → list_to n p ≡ []
@@ -87,31 +86,3 @@ pub concat_both : {A : Type 0} (f : ℕ → List A) (xs ys : List ℕ) → conca
 unfolding concat
 concat_both f [] ys = refl
 concat_both {A} f (x ∷ xs) ys = ap (λ (l : List A). f x ++ l) (concat_both f xs ys) ∙ sym (append_assoc (f x) (concat f xs) (concat f ys))
-
--- the loop's invariant: what there is, with the members left still to come, makes the whole
-pub record Going {A : Type 0} (f : A → ℕ → A) (start : A) (set : ℕ) (x : A) (left : ℕ) : Type 0 where
-  pub fits : left < 2 ^ 64
-  pub whole : for_each f x (members left) ≡ for_each f start (members set)
-
-pub going_starts : {A : Type 0} (f : A → ℕ → A) (start : A) {set : ℕ} → set < 2 ^ 64 → Going f start set start set
-going_starts f start h = record { fits = h; whole = refl }
-
--- the measure is the set, as a number
-pub going_less : (left k next : ℕ) → left < 2 ^ 64 → (left ≡ 0 → ⊥) → k ≡ lowest_of left → next ≡ set_of (besides left k) → next < left
-going_less left k next h p m e = subst (λ (x : ℕ). x < left) (sym e) (without_less 64 left k h ((least_of h m).some (omega arith)).1.member)
-
-pub going_on : {A : Type 0} {f : A → ℕ → A} {start x y : A} {set left k next : ℕ} → Going f start set x left → (left ≡ 0 → ⊥) → k ≡ lowest_of left
-    → y ≡ f x k → next ≡ set_of (besides left k) → Going f start set y next
-unfolding for_each
-going_on {A} {f} {start} {x} {y} {set} {left} {k} {next} g p m e r = record {
-  fits = lt_trans (going_less left k next g.fits p m r) g.fits;
-  whole =
-      ap₂ (λ (z : A) (n : ℕ). for_each f z (members n)) e r
-      ∙ ap (for_each f x) (sym (members_next left k (omega arith) (least_of g.fits m)))
-      ∙ g.whole;
-}
-
-pub going_done : {A : Type 0} {f : A → ℕ → A} {start x : A} {set left : ℕ} → Going f start set x left → left ≡ 0 → x ≡ for_each f start (members set)
-unfolding for_each
-going_done {A} {f} {start} {x} g e =
-    sym (ap (for_each f x) members_none) ∙ ap (λ (n : ℕ). for_each f x (members n)) (sym e) ∙ g.whole

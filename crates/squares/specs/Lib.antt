@@ -1,3 +1,4 @@
 pub mod Tests
 pub mod Squares
 pub mod Members
+pub mod Walks

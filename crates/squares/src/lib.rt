@@ -5,6 +5,8 @@
 ghost use Rattle.std.specs.Prelude.{◌≡◌, cond, eqb};
 ghost use Rattle.squares.specs.Squares.{file, rank, has, set_of, only, size, besides, over_one, under_one, left_of_one, right_of_one};
 ghost use Rattle.squares.specs.Members.{lowest_of};
+ghost use Rattle.squares.specs.Walks.{to_come};
+ghost use Rattle.std.specs.Iterator.{YieldsFirst, item_count};
 
 // The set of one square (`BitBoard::from_square`).
 pub fn bit(k: u8) -> u64
@@ -37,6 +39,36 @@ pub fn without(s: u64, k: u8) -> u64
     ensures { result ≡ set_of (besides s k) }
 {
     s & !bit(k)
+}
+
+// The members of a set one by one, the lowest first, as the Rust's `for k in set`.
+#[derive(Drop)]
+pub struct Walk {
+    left: u64,
+}
+
+pub fn each(s: u64) -> Walk
+    ensures { result.left ≡ s }
+{
+    Walk { left: s }
+}
+
+impl Iterator for Walk {
+    type Item = u8;
+
+    ghost next_gives = { YieldsFirst to_come };
+
+    ghost remaining = { item_count to_come };
+
+    fn next(&mut self) -> Option<u8> {
+        let left = self.left;
+        if left == 0 {
+            return None;
+        }
+        let k = lowest(left);
+        self.left = without(left, k);
+        Some(k)
+    }
 }
 
 // One of two sets.

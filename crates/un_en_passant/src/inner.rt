@@ -57,11 +57,8 @@ fn rays(t: &[u64; 4096], oppking: u8, set: u64) -> u64
     ensures { result ≡ rays_of oppking set }
 {
     let mut out: u64 = 0;
-    let mut left = set;
-    while left != 0 {
-        let checker = squares::lowest(left);
-        out = out | tables::inner::between(t, checker, oppking);
-        left = squares::without(left, checker);
+    for checker in squares::each(set) {
+        out |= tables::inner::between(t, checker, oppking);
     }
     out
 }
@@ -149,11 +146,8 @@ fn each(list: RetractionList, t: &[u64; 4096], v: View, n: u32, set: u64) -> Ret
     ensures { result ≡ pushed_all list (concat (passant_of v n) (members set)) }
 {
     let mut out = list;
-    let mut left = set;
-    while left != 0 {
-        let src = squares::lowest(left);
+    for src in squares::each(set) {
         out = passant(out, t, v, n, src);
-        left = squares::without(left, src);
     }
     out
 }

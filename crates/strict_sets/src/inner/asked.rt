@@ -58,12 +58,9 @@ pub fn tested(t: &[u64; 4096], p: Position, s: u8, set: u64) -> u64
     requires { IsBetween t.now × Today p }
     ensures { result ≡ set_of (united (strict_alone (pos_at p) s) set) }
 {
-    let mut left = set;
     let mut r: u64 = 0;
-    while left != 0 {
-        let q = squares::lowest(left);
-        r = r | alone(t, p, s, q);
-        left = squares::without(left, q);
+    for q in squares::each(set) {
+        r |= alone(t, p, s, q);
     }
     r
 }

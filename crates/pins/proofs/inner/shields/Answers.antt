@@ -1,22 +1,16 @@
 -- `pins::inner::shields` meets its contract.
-use native.Mathlib.Omega.{arith}
-use Rattle.laws.specs.Attacks.{alone}
-use Rattle.laws.specs.Boards.{men_at}
-use Rattle.squares.proofs.Members.{lowest_lt}
-use Rattle.squares.proofs.Unions.{unite_start, unite_turn, unite_less, unite_end}
+use Rattle.squares.proofs.Turns.{taken_lt}
+use Rattle.squares.proofs.Unions.{unite_starts, unite_on, unite_done}
 use Rattle.pins.proofs.inner.shields.Goals as goal
 
-pub loop-left-init : goal.loop-left-init
-loop-left-init c = unite_start (λ a. alone (men_at c.args.pieces c.args.colors) a c.args.q) c.args.from c.ranges.from.fits
+pub loop-a-init : goal.loop-a-init
+loop-a-init c = unite_starts (cc)
 
 pub lone-r-requires : goal.lone-r-requires
-lone-r-requires c = (c.requires.0, c.requires.1, lowest_lt c.loop-left.invariant.left_fits c.loop-left-test.true c.lowest-a.ensures, c.requires.2)
+lone-r-requires c = (c.requires.0, c.requires.1, taken_lt _ c.in-Some.ensures.steps, c.requires.2)
 
-pub loop-left-smaller : goal.loop-left-smaller
-loop-left-smaller c = unite_less (λ a. alone (men_at c.args.pieces c.args.colors) a c.args.q) c.args.from c.loop-left.left c.loop-left.r c.lowest-a.result c.without-left.result c.loop-left.invariant (omega arith) c.lowest-a.ensures c.without-left.ensures
-
-pub loop-left-preserved : goal.loop-left-preserved
-loop-left-preserved c = unite_turn (λ a. alone (men_at c.args.pieces c.args.colors) a c.args.q) c.args.from c.loop-left.left c.loop-left.r c.lowest-a.result c.lone-r.result c.without-left.result c.loop-left.invariant (omega arith) c.lowest-a.ensures c.lone-r.ensures c.without-left.ensures
+pub loop-a-preserved : goal.loop-a-preserved
+loop-a-preserved c = unite_on c.loop-a.invariant c.in-Some.ensures.steps c.lone-r.ensures
 
 pub returns : goal.returns
-returns c = unite_end (λ a. alone (men_at c.args.pieces c.args.colors) a c.args.q) c.args.from c.loop-left.left c.loop-left.r c.loop-left-test.false c.loop-left.invariant
+returns c = unite_done c.loop-a.invariant c.in-None.ensures.steps.0

@@ -3,8 +3,5 @@ use Rattle.laws.specs.Boards.{men_at}
 use Rattle.squares.proofs.Unions.{Uniting}
 use Rattle.pins.proofs.inner.shields.Given as goal
 
-abbrev pub invariant-loop-left : goal.invariant-loop-left
-invariant-loop-left l = Uniting (λ a. alone (men_at l.pieces l.colors) a l.q) l.from l.left l.r
-
-abbrev pub decreases-loop-left : goal.decreases-loop-left
-decreases-loop-left l = l.left
+abbrev pub invariant-loop-a : goal.invariant-loop-a
+invariant-loop-a l = Uniting (λ a. alone (men_at l.pieces l.colors) a l.q) l.from l.a-iterator.left l.r

@@ -1,15 +1,19 @@
 -- `square_names::inner::put_all_spaced` meets its contract.
+use mathlib.Core.Path.{refl}
 use borrow.Author.Rules.{rules}
 use Rattle.square_names.specs.Names.{spaced_name}
-use Rattle.squares.proofs.Members.{going_less, going_on, going_done}
+use Rattle.squares.proofs.Turns.{going_starts, going_on, going_done}
 use Rattle.square_names.proofs.Squares.{one_added, loop_adds}
 use Rattle.square_names.proofs.inner.put_all_spaced.Goals as goal
 
-pub loop-left-smaller : goal.loop-left-smaller
-loop-left-smaller c = going_less _ _ _ c.loop-left.invariant.0.fits c.loop-left-test.true c.lowest-k.ensures c.without-left.ensures
+pub loop-k-init : goal.loop-k-init
+loop-k-init c = (going_starts (cc), refl)
 
-pub loop-left-preserved : goal.loop-left-preserved
-loop-left-preserved c = (going_on c.loop-left.invariant.0 c.loop-left-test.true c.lowest-k.ensures (one_added spaced_name c.put_spaced-at.ensures) c.without-left.ensures, search rules)
+pub loop-k-preserved : goal.loop-k-preserved
+loop-k-preserved c = (going_on c.loop-k.invariant.0 c.in-Some.ensures.steps (one_added spaced_name c.put_spaced-at.ensures), search rules)
+
+pub shape_of-out : goal.shape_of-out
+shape_of-out c = c.loop-k.invariant.1
 
 pub returns : goal.returns
-returns c = loop_adds spaced_name _ _ _ _ _ c.requires (going_done c.loop-left.invariant.0 c.loop-left-test.false)
+returns c = loop_adds spaced_name _ _ _ _ _ c.requires (going_done c.loop-k.invariant.0 c.in-None.ensures.steps.0)
