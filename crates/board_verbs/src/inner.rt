@@ -4,7 +4,7 @@ ghost use Rattle.geometry.specs.Lines.{IsBetween};
 ghost use Rattle.puts.specs.inner.Growing.{Grows};
 
 use board::RetractableBoard;
-use laws::{ChessRetraction, Color, EnPassantFlag};
+use laws::{ChessRetraction, Color, EnPassantFlag, Piece};
 
 mod made; // made.rt: raw men, and a move replayed
 mod told; // told.rt: what a board's methods tell, put

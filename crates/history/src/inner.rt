@@ -2,7 +2,7 @@
 ghost use Rattle.geometry.specs.Lines.{IsBetween};
 ghost use Rattle.history.specs.Histories.{Answers};
 
-use super::Why;
+use super::{History, Why};
 use board::RetractableBoard;
 
 // The fewest plies that are asked for.
@@ -13,21 +13,9 @@ pub fn history_of(t: &[u64; 4096], b: RetractableBoard, depth: u8) -> Result<Opt
     requires { IsBetween t.now }
     ensures { Answers b depth result }
 {
-    let v = board::inner::gate(t, b);
-    match v {
-        Err(why) => Err(Why::Board(why)),
-        Ok(()) => {
-            if depth < LEAST {
-                return Err(Why::Depth);
-            }
-            if depth > 4 {
-                return Err(Why::Depth);
-            }
-            let h = super::plies::last_ply(t, b, depth);
-            match h {
-                Some(l) => Ok(Some(l)),
-                None => Ok(None),
-            }
-        }
+    board::inner::gate(t, b).map_err(Why::Board)?;
+    if depth < LEAST || depth > 4 {
+        return Err(Why::Depth);
     }
+    Ok(super::plies::last_ply(t, b, depth))
 }

@@ -8,7 +8,7 @@ ghost use Rattle.history.specs.Histories.{plies_of, Answers};
 ghost use Rattle.history_reply.specs.Replies.{ply_row, plies_text, history_text, AnswersText, Replies};
 
 use board::RetractableBoard;
-use history::History;
+use history::{History, Why};
 use laws::{ChessRetraction, Edition};
 use position_text::Copied;
 use refusal::Refusal;

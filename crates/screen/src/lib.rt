@@ -5,6 +5,7 @@ ghost use Rattle.reply.specs.Replies.{Shows};
 ghost use Rattle.screen.specs.Screens.{opening_text, Shown};
 
 use board::RetractableBoard;
+use laws::ChessRetraction;
 use retraction_gen::RetractionGen;
 use text::Printed;
 

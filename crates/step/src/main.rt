@@ -7,7 +7,7 @@ ghost use Rattle.geometry.specs.Lines.{IsBetween};
 ghost use Rattle.io.specs.Counts.{IsPrefixLen};
 
 use input::{Cursor, Step};
-use laws::Edition;
+use laws::{ChessRetraction, Edition};
 use presses::Press;
 use refusal::{Refusal, Verdict};
 use retraction_gen::RetractionGen;

@@ -4,6 +4,7 @@
 ghost use Rattle.retraction_gen.specs.Cursors.{Steps};
 ghost use Rattle.stepping.specs.Presses.{Press};
 
+use laws::ChessRetraction;
 use retraction_gen::{RetractionGen, Stepped};
 
 // The next retraction of the caller's own cursor, or the end: what `next` answers, and in the record the cursor that `next` hands back.

@@ -2,6 +2,8 @@
 use mathlib.Core.Path.{◌≡◌, refl, sym, ap, ap₂, ◌∙◌, subst}
 use mathlib.Core.Logic.{◌↔◌}
 use mathlib.Core.Bool.{Bool, true, false}
+use lib.Dec.{ltb}
+use borrow.Author.Tests.{ltb-true, ltb-false}
 use mathlib.Core.List.{List, [], ◌∷◌, map}
 use Prim.Native.Nat.{ℕ, zero, suc, ◌+◌, ◌*◌, ◌/◌, ◌%◌, ◌≤◌, ◌<◌}
 use lib.Dec.{eqb}
@@ -138,6 +140,13 @@ module _ (b : RetractableBoard) (h : gate_of b ≡ nothing_refused) (j : ℕ) (x
 
       no_past : (q : ChessRetraction) → Past b q → ⊥
       no_past q z = elim (((whole [] (at_end _ _ _ x (end x.skips.most f))).members q).1 z) [ ]
+
+  pub answers_by : Answers b (Ok (ltb j 49152))
+  answers_by = go (ltb j 49152) refl
+    where
+      go : (t : Bool) → ltb j 49152 ≡ t → Answers b (Ok t)
+      go true e = answers_some (ltb-true _ _ e)
+      go false e = answers_none (ltb-false _ _ e)
 
 -- the answers behind the gate
 module _ (b : RetractableBoard) where

@@ -10,6 +10,7 @@ ghost use Rattle.strict.specs.Onward.{Finds};
 use super::Placed;
 use board::RetractableBoard;
 use laws::Position;
+use refusal::Refusal;
 use slots::Listed;
 
 // The position of a board that its gate let pass.

@@ -1,6 +1,7 @@
 // What each press of a board's cursor yields.
 ghost use Rattle.puts.specs.inner.Growing.{Grows};
 
+use laws::ChessRetraction;
 use retraction_gen::{Made, RetractionGen};
 
 // What each press of a board's cursor yields, packed, up to the third end.

@@ -1,6 +1,7 @@
 // What is told of a board's lists in one word: how long they are, whether they are limited, whether there is a last move.
 ghost use Rattle.puts.specs.inner.Growing.{Grows};
 
+use refusal::Refusal;
 use slots::Listed;
 
 pub(super) fn put_count(l: Listed, out: &mut [u8; 65536]) -> usize

@@ -1,16 +1,17 @@
 -- `strict::inner::strict_count` meets its contract.
 use mathlib.Core.Path.{sym, ◌∙◌}
 use Rattle.strict.proofs.Told.{counted_told, counted_refused}
+use Rattle.refusal.proofs.Saying.{handed_on}
 use Rattle.strict.proofs.inner.strict_count.Goals as goal
 
-pub today-p-requires : goal.today-p-requires
-today-p-requires c = sym c.gate-v.ensures ∙ c.in-Ok.is
+pub today-requires : goal.today-requires
+today-requires c = sym c.gate.ensures ∙ c.in_ok-gate.was
 
 pub count-requires : goal.count-requires
-count-requires c = (c.requires, c.today-p.ensures.1)
+count-requires c = (c.requires, c.today.ensures.1)
 
-pub returns-in-Err : goal.returns-in-Err
-returns-in-Err c = counted_refused _ _ (sym c.gate-v.ensures ∙ c.in-Err.is)
+pub returns-in_err-gate : goal.returns-in_err-gate
+returns-in_err-gate c = rw (handed_on _ _ c.from_residual.ensures.1) (counted_refused _ _ (sym c.gate.ensures ∙ c.in_err-gate.was))
 
-pub returns-in-Ok : goal.returns-in-Ok
-returns-in-Ok c = counted_told _ (sym c.gate-v.ensures ∙ c.in-Ok.is) (rw c.today-p.ensures.0 at c.count.ensures)
+pub returns : goal.returns
+returns c = counted_told _ (sym c.gate.ensures ∙ c.in_ok-gate.was) (rw c.today.ensures.0 at c.count.ensures)
