@@ -120,8 +120,7 @@ pub fn walk(
     ensures { WalksTo back n from last s.now at rows result }
 {
     let mut before = last;
-    let mut j = 0;
-    while j < rows {
+    for j in 0..rows {
         let e = entry(s, at + 8 * j);
         let t = tests::row(e, n, from + j, before, back);
         match t {
@@ -135,11 +134,10 @@ pub fn walk(
             Tested::Sound => {}
         }
         before = e.number;
-        j += 1;
     }
     Walked {
         tested: Tested::Sound,
-        rows: j,
+        rows: rows,
         last: before,
     }
 }
@@ -151,6 +149,7 @@ pub fn find(s: &[u8], at: usize, rows: usize, number: usize) -> usize
 {
     let mut low = 0;
     let mut high = rows;
+    // The library's `partition_point` takes a slice of elements, and the rows are bytes of the file.
     while low < high {
         let mid = (low + high) / 2;
         let e = entry(s, at + 8 * mid);
