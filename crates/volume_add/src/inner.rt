@@ -41,8 +41,7 @@ fn put_rows(v: &[u8], out: &mut [u8], n: usize)
     requires { (n < 65536) × (6 + 8 * n ≤ length out.old) }
     ensures { out.new ≡ take 6 out.old ++ joined (carried v.now n) n ++ drop (6 + 8 * n) out.old }
 {
-    let mut i = 0;
-    while i < n {
+    for i in 0..n {
         let row = volume_contents::inner::entry(v, 6 + 8 * i);
         let edition = volume_contents::inner::edition_of(row.edition);
         put(
@@ -50,7 +49,6 @@ fn put_rows(v: &[u8], out: &mut [u8], n: usize)
             6 + 8 * i,
             volume_contents::inner::row_of(row.number, edition, 14 + 8 * n + 34 * i),
         );
-        i += 1;
     }
 }
 

@@ -121,8 +121,7 @@ pub fn scan(v: &[u8], n: usize) -> Scan
     ensures { Scanned v.now n result }
 {
     let mut size = 0;
-    let mut i = 0;
-    while i < n {
+    for i in 0..n {
         let b = board(v, n, i);
         let j = b.judged;
         match j {
@@ -133,7 +132,6 @@ pub fn scan(v: &[u8], n: usize) -> Scan
         }
         let l = position_text::inner::line_of(b.board);
         size = size + l.len + 1;
-        i += 1;
     }
     Scan::Good(size)
 }
@@ -154,14 +152,12 @@ pub fn put_lines(v: &[u8], out: &mut [u8], n: usize)
     ensures { LinesIn v.now n out.old out.new }
 {
     let mut to = 0;
-    let mut i = 0;
-    while i < n {
+    for i in 0..n {
         let raw = board_at(v, n, i);
         let l = position_text::inner::line_of(raw.position);
         let end = to + l.len;
         volume_make::inner::put(out, to, l);
         volume_make::inner::put(out, end, newline());
         to = end + 1;
-        i += 1;
     }
 }
