@@ -5,7 +5,7 @@ ghost use Rattle.volume_contents.specs.inner.Walks.{Rising};
 use super::answers::Answer;
 use super::file;
 use super::file::File;
-use volume_contents::{Tested, Why};
+use volume_contents::Why;
 
 // How many problems a volume has, or how its head fails.
 pub(super) fn head(f: &File, chunk: &mut [u8; 65536]) -> Answer {
@@ -18,8 +18,8 @@ pub(super) fn head(f: &File, chunk: &mut [u8; 65536]) -> Answer {
     let bytes: &[u8] = chunk;
     let t = volume_contents::inner::tests::head(&bytes[..n], size);
     match t {
-        Tested::Flawed(w) => Answer::Refused(Why::Contents(w, 0)),
-        Tested::Sound => {
+        Err(w) => Answer::Refused(Why::Contents(w, 0)),
+        Ok(()) => {
             let all = volume_contents::inner::problems(&bytes[..n]);
             Answer::Problems(all as u16)
         }
@@ -55,19 +55,16 @@ pub(super) fn walk(f: &File, n: u16, back: bool, number: usize, rows: &mut [u8; 
                 found,
             };
         }
-        let w = volume_contents::inner::walk(rows, 0, k, all, i, last, back);
-        let tested = w.tested;
-        match tested {
-            Tested::Flawed(flaw) => {
+        last = match volume_contents::inner::walk(rows, 0, k, all, i, last, back) {
+            Ok(of_last) => of_last,
+            Err((flaw, row)) => {
                 return Table {
-                    answer: Answer::Refused(Why::Contents(flaw, i + w.rows + 1)),
+                    answer: Answer::Refused(Why::Contents(flaw, i + row + 1)),
                     found,
                 };
             }
-            Tested::Sound => {}
-        }
+        };
         found = find(rows, k, i, number, found);
-        last = w.last;
         i += k;
     }
     Table {

@@ -8,7 +8,7 @@ ghost use Rattle.volume_add.specs.inner.Longer.{carried, longer, AddsTo};
 
 use laws::Position;
 use refusal::Verdict;
-use volume_contents::{Flaw, Tested, Why, Written};
+use volume_contents::{Flaw, Why};
 use volume_make::inner::put;
 
 // The number of the last of n rows, 0 where there is none.
@@ -24,16 +24,16 @@ fn last(v: &[u8], n: usize) -> usize
 }
 
 // The tests of a new number behind the last one.
-fn test_number(last: usize, k: usize) -> Tested
+fn test_number(last: usize, k: usize) -> Result<(), Flaw>
     ensures { result ≡ number_tested last k }
 {
     if (0 < k) & (k <= 65535) {
         if last < k {
-            return Tested::Sound;
+            return Ok(());
         }
-        return Tested::Flawed(Flaw::Order);
+        return Err(Flaw::Order);
     }
-    Tested::Flawed(Flaw::Number)
+    Err(Flaw::Number)
 }
 
 // The n rows of a volume that becomes one problem longer.
@@ -71,26 +71,29 @@ fn write(v: &[u8], n: usize, number: usize, board: Position, out: &mut [u8])
 }
 
 // The volume as it is has passed: 17 for the number, 1 to 6 for the board, 13.
-pub fn add_to(v: &[u8], n: usize, number: usize, board: Position, out: &mut [u8]) -> Written
+pub fn add_to(
+    v: &[u8],
+    n: usize,
+    number: usize,
+    board: Position,
+    out: &mut [u8],
+) -> Result<usize, Why>
     requires { (n < 65536) × (length v.now ≡ size_of n) }
     ensures { AddsTo v.now n number board out.old result out.new }
 {
-    let t = test_number(last(v, n), number);
-    match t {
-        Tested::Flawed(w) => Written::Refused(Why::Contents(w, n + 1)),
-        Tested::Sound => {
-            let j = accept::inner::judge(board);
-            match j {
-                Verdict::Refused(w) => Written::Refused(Why::Board(w, n + 1)),
-                Verdict::Accepted => {
-                    let need = 48 + 42 * n;
-                    if out.len() < need {
-                        return Written::Refused(Why::Room(need));
-                    }
-                    write(v, n, number, board, out);
-                    Written::Count(need)
-                }
+    if let Err(flaw) = test_number(last(v, n), number) {
+        return Err(Why::Contents(flaw, n + 1));
+    }
+    let j = accept::inner::judge(board);
+    match j {
+        Verdict::Refused(w) => Err(Why::Board(w, n + 1)),
+        Verdict::Accepted => {
+            let need = 48 + 42 * n;
+            if out.len() < need {
+                return Err(Why::Room(need));
             }
+            write(v, n, number, board, out);
+            Ok(need)
         }
     }
 }

@@ -6,13 +6,13 @@ use mathlib.Core.Logic.{⊎_elim}
 use Prim.Native.Nat.{ℕ, ◌+◌, ◌≤◌, ◌<◌}
 use native.Mathlib.Omega.{arith}
 use Rattle.squares.proofs.Testing.{order as either}
-use Rattle.volume_contents.specs.declared.Tested.TheVariants.{Sound}
+use Rattle.std.specs.Prelude.{Ok}
 use Rattle.volume_contents.specs.inner.Walks.{number_in, last_in, tested_in, Rising}
 
 module _ (back : Bool) (n from last : ℕ) (s : List ℕ) (at k : ℕ) where
   -- j rows are sound, and the last of them has the number `before`
   pub record Sofar (before j : ℕ) : Type 0 where
-    pub sound : (i : ℕ) → i < j → tested_in back n from last s at i ≡ Sound
+    pub sound : (i : ℕ) → i < j → tested_in back n from last s at i ≡ Ok tt
     pub before_is : before ≡ last_in last s at j
     pub inside : j ≤ k
 

@@ -4,4 +4,4 @@ use Rattle.volume.proofs.Rising.{walked_rising}
 use Rattle.volume.proofs.table.walk.Goals as goal
 
 pub find-found-requires : goal.find-found-requires
-find-found-requires c = (omega arith, omega arith, walked_rising _ _ _ _ _ _ _ _ c.walk-w.ensures c.in-Sound.is)
+find-found-requires c = (omega arith, omega arith, walked_rising _ _ _ _ _ _ _ _ c.in-Ok.ensures)

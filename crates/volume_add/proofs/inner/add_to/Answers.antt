@@ -1,11 +1,11 @@
 use mathlib.Core.Path.{refl, sym, ◌∙◌, ap}
 use Prim.Native.Nat.{ℕ}
 use Rattle.volume_add.specs.Adding.{number_tested}
-use Rattle.volume_add.specs.inner.Longer.{misnumbered, unjudged, narrow, added}
+use Rattle.volume_add.specs.inner.Longer.{misnumbered, unjudged}
 use Rattle.volume_add.proofs.inner.add_to.Goals as goal
 
-pub returns-in-Flawed : goal.returns-in-Flawed
-returns-in-Flawed c = misnumbered _ (ap (λ (k : ℕ). number_tested k c.args.number) (sym c.last.ensures) ∙ sym c.test_number-t.ensures ∙ c.in-Flawed.is) refl refl
+pub returns-in-Err : goal.returns-in-Err
+returns-in-Err c = misnumbered _ (ap (λ (k : ℕ). number_tested k c.args.number) (sym c.last.ensures) ∙ sym c.in-Err.ensures) refl refl
 
 pub returns-in-Refused : goal.returns-in-Refused
-returns-in-Refused c = unjudged _ (ap (λ (k : ℕ). number_tested k c.args.number) (sym c.last.ensures) ∙ sym c.test_number-t.ensures ∙ c.in-Sound.is) (sym c.judge-j.ensures ∙ c.in-Refused.is) refl refl
+returns-in-Refused c = unjudged _ (ap (λ (k : ℕ). number_tested k c.args.number) (sym c.last.ensures) ∙ sym c.in_default.ensures) (sym c.judge-j.ensures ∙ c.in-Refused.is) refl refl
