@@ -4,7 +4,7 @@ ghost use Rattle.volume_contents.specs.inner.Walks.{Rising};
 
 use super::answers::Fault;
 use super::file::File;
-use volume_contents::{Tested, Why};
+use volume_contents::Why;
 
 // How many problems a volume has, or how its head fails.
 pub(super) fn head(f: &File, chunk: &mut [u8; 65536]) -> Result<u16, Fault> {
@@ -12,8 +12,8 @@ pub(super) fn head(f: &File, chunk: &mut [u8; 65536]) -> Result<u16, Fault> {
     f.fill(0, chunk, n)?;
     let bytes = &chunk[..n];
     match volume_contents::inner::tests::head(bytes, f.size) {
-        Tested::Flawed(w) => Err(Fault::Refused(Why::Contents(w, 0))),
-        Tested::Sound => Ok(volume_contents::inner::problems(bytes) as u16),
+        Err(w) => Err(Fault::Refused(Why::Contents(w, 0))),
+        Ok(()) => Ok(volume_contents::inner::problems(bytes) as u16),
     }
 }
 
@@ -38,12 +38,13 @@ pub(super) fn walk(
     for i in (0..all).step_by(8192) {
         let k = (all - i).min(8192);
         f.fill(6 + 8 * i, rows, 8 * k)?;
-        let w = volume_contents::inner::walk(rows, 0, k, all, i, last, back);
-        if let Tested::Flawed(flaw) = w.tested {
-            return Err(Fault::Refused(Why::Contents(flaw, i + w.rows + 1)));
-        }
+        last = match volume_contents::inner::walk(rows, 0, k, all, i, last, back) {
+            Ok(of_last) => of_last,
+            Err((flaw, row)) => {
+                return Err(Fault::Refused(Why::Contents(flaw, i + row + 1)));
+            }
+        };
         found = find(rows, k, i, number).or(found);
-        last = w.last;
     }
     Ok(found)
 }

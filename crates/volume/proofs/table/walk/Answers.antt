@@ -4,4 +4,4 @@ use Rattle.volume.proofs.Rising.{walked_rising}
 use Rattle.volume.proofs.table.walk.Goals as goal
 
 pub find-requires : goal.find-requires
-find-requires c = (omega arith, omega arith, walked_rising _ _ _ _ _ _ _ _ c.walk-w.ensures c.in_default.is)
+find-requires c = (omega arith, omega arith, walked_rising _ _ _ _ _ _ _ _ c.in-Ok.ensures)
