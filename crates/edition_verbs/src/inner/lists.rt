@@ -61,13 +61,8 @@ fn put_members(slots: &[u16], count: usize, out: &mut [u8; 65536], len: usize) -
     ensures { Grows len result }
 {
     let mut n = len;
-    let mut i = 0;
-    while i < slots.len() {
-        if i >= count {
-            return n;
-        }
-        n = puts::inner::next_number(out, n, slots[i] as u64);
-        i += 1;
+    for slot in slots.iter().take(count) {
+        n = puts::inner::next_number(out, n, u64::from(*slot));
     }
     n
 }

@@ -133,10 +133,8 @@ fn put_slots(slots: &[u16], out: &mut [u8; 65536], len: usize) -> usize
     ensures { Grows len result }
 {
     let mut n = puts::inner::bytes(out, len, b" [");
-    let mut i = 0;
-    while i < slots.len() {
-        n = puts::inner::member(out, n, i, slots[i] as u64);
-        i += 1;
+    for (i, slot) in slots.iter().enumerate() {
+        n = puts::inner::member(out, n, i, u64::from(*slot));
     }
     puts::inner::bytes(out, n, b"]")
 }
