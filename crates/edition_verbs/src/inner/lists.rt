@@ -5,7 +5,7 @@ ghost use Rattle.puts.specs.inner.Growing.{Grows};
 use board::RetractableBoard;
 use refusal::Refusal;
 use retraction_gen::RetractionGen;
-use slots::Listed;
+use slots::Unlisted;
 
 // The number of entries of the board's cursor, then the ported list.
 pub(super) fn put_ported(t: &[u64; 4096], b: RetractableBoard, out: &mut [u8; 65536]) -> usize
@@ -35,24 +35,24 @@ pub(super) fn put_strict(t: &[u64; 4096], b: RetractableBoard, out: &mut [u8; 65
     put_listed(l, counted(l), &slots, out)
 }
 
-fn counted(l: Listed) -> usize {
+fn counted(l: Result<usize, Unlisted>) -> usize {
     match l {
-        Listed::Count(n) => n,
-        Listed::Room(_) => 0,
-        Listed::Refused(_) => 0,
+        Ok(n) => n,
+        Err(Unlisted::Room(_)) => 0,
+        Err(Unlisted::Refused(_)) => 0,
     }
 }
 
-fn put_listed(l: Listed, first: usize, slots: &[u16], out: &mut [u8; 65536]) -> usize
+fn put_listed(l: Result<usize, Unlisted>, first: usize, slots: &[u16], out: &mut [u8; 65536]) -> usize
     ensures { Grows 0 result }
 {
     match l {
-        Listed::Count(n) => {
+        Ok(n) => {
             let len = puts::inner::number(out, 0, first as u64);
             put_members(slots, n, out, len)
         }
-        Listed::Room(_) => puts::inner::refused(Refusal::Room, out),
-        Listed::Refused(r) => puts::inner::refused(r, out),
+        Err(Unlisted::Room(_)) => puts::inner::refused(Refusal::Room, out),
+        Err(Unlisted::Refused(r)) => puts::inner::refused(r, out),
     }
 }
 
