@@ -17,6 +17,7 @@ use Rattle.record_fields.specs.Passed.{is_known}
 use Rattle.records.specs.declared.Unwritten.{Unwritten}
 use Rattle.records.specs.Entries.{record_on, written_says, WritesRecord}
 use Rattle.records.proofs.Giving.{why_one}
+use Rattle.records.specs.declared.Why.{Why}
 use Rattle.std.specs.Prelude.{Err, Ok, Result}
 use Rattle.records.specs.declared.Unwritten.TheVariants.{Room, Refused}
 
@@ -30,7 +31,7 @@ written_one (Err (Room m)) (Err (Room n)) e = cc
 written_one (Err (Room m)) (Err (Refused w)) e = no_value e
 written_one (Err (Refused v)) (Ok n) e = no_value (sym e)
 written_one (Err (Refused v)) (Err (Room n)) e = no_value (sym e)
-written_one (Err (Refused v)) (Err (Refused w)) e = ap Err (Refused (why_one v w (ap number_said e)))
+written_one (Err (Refused v)) (Err (Refused w)) e = ap (λ (z : Why). Err (Refused z)) (why_one v w (ap number_said e))
 
 -- any two answers, and any two contents of the slice, agree
 pub one_written : {ts : List Test} {e : EnPassantFlag} {t o : List ℕ} (r q : Result ℕ Unwritten) (u v : List ℕ) → WritesRecord ts e t o (written_says r) u

@@ -12,6 +12,7 @@ use Rattle.slots.specs.Slots.{fill_from, listed_says}
 use Rattle.refusal.proofs.Saying.{number_one}
 use Rattle.refusal.proofs.Writing.{no_value, no_room, writes_roomless, writes_whole, writes_one, Written, Roomless, Failed, tells_count, tells_room, tells_refused}
 use Rattle.slots.proofs.Filling.{filled_is}
+use Rattle.refusal.specs.declared.Refusal.{Refusal}
 use Rattle.std.specs.Prelude.{Err, Ok, Result}
 use Rattle.slots.specs.declared.Unlisted.TheVariants.{Room, Refused}
 
@@ -47,7 +48,7 @@ listed_one (Err (Room m)) (Err (Room n)) e = cc
 listed_one (Err (Room m)) (Err (Refused w)) e = no_value e
 listed_one (Err (Refused v)) (Ok n) e = no_value (sym e)
 listed_one (Err (Refused v)) (Err (Room n)) e = no_value (sym e)
-listed_one (Err (Refused v)) (Err (Refused w)) e = ap Err (Refused (number_one v w (ap number_said e)))
+listed_one (Err (Refused v)) (Err (Refused w)) e = ap (λ (z : Refusal). Err (Refused z)) (number_one v w (ap number_said e))
 
 -- any two answers, and any two contents of the slots, agree
 pub one_listed : {ts : List Test} {s : List ℕ} (l : List ChessRetraction) (r q : Result ℕ Unlisted) (t u : List ℕ) → Writes ts (map packed l) s (listed_says r) t → Writes ts (map packed l) s (listed_says q) u

@@ -58,7 +58,7 @@ printed_one (Err (Room m)) (Err (Room n)) e = cc
 printed_one (Err (Room m)) (Err (Refused w)) e = no_value e
 printed_one (Err (Refused v)) (Ok n) e = no_value (sym e)
 printed_one (Err (Refused v)) (Err (Room n)) e = no_value (sym e)
-printed_one (Err (Refused v)) (Err (Refused w)) e = ap Err (Refused (number_one v w (ap number_said e)))
+printed_one (Err (Refused v)) (Err (Refused w)) e = ap (λ (z : Refusal). Err (Refused z)) (number_one v w (ap number_said e))
 
 pub one_printed : (b : RetractableBoard) {o : List ℕ} (r q : Result ℕ Unprinted) (t u : List ℕ) → Writes (board_tests b) (text_on b) o (printed_says r) t
     → Writes (board_tests b) (text_on b) o (printed_says q) u → (r ≡ q) × (t ≡ u)
