@@ -63,7 +63,12 @@ fn put_text(b: RetractableBoard, out: &mut [u8; 196608]) -> usize
 }
 
 // What is told of an accepted board, under its text.
-fn put_history(b: RetractableBoard, depth: u8, told: Result<Option<History>, Why>, out: &mut [u8; 196608]) -> usize
+fn put_history(
+    b: RetractableBoard,
+    depth: u8,
+    told: Result<Option<History>, Why>,
+    out: &mut [u8; 196608],
+) -> usize
     requires { Answers b depth told }
     ensures { Shows (history_text b depth told) result out.old out.new }
 {

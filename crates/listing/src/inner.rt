@@ -154,7 +154,11 @@ pub fn list(t: &[u64; 4096], b: RetractableBoard, slots: &mut [u16]) -> Result<u
 }
 
 // `retractions_into`: refusals 1 to 7, 8, then 13.
-pub fn retractions_into(t: &[u64; 4096], b: RetractableBoard, slots: &mut [u16]) -> Result<usize, Unlisted>
+pub fn retractions_into(
+    t: &[u64; 4096],
+    b: RetractableBoard,
+    slots: &mut [u16],
+) -> Result<usize, Unlisted>
     requires { IsBetween t.now }
     ensures { Writes (list_tests b) (map packed (sequence_on b)) slots.old (listed_says result) slots.new }
 {

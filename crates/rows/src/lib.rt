@@ -8,7 +8,13 @@ pub mod inner; // inner.rt: sets of slots, the lines above the rows, the rows, a
 
 // The report of the checkers and of the listed and the strict retractions behind the first `len` bytes of a buffer, all or nothing. Nothing
 // is written before the room is known.
-pub fn report(out: &mut [u8], len: usize, checkers: u64, listed: &[u16], strict: &[u16]) -> Result<usize, usize>
+pub fn report(
+    out: &mut [u8],
+    len: usize,
+    checkers: u64,
+    listed: &[u16],
+    strict: &[u16],
+) -> Result<usize, usize>
     ensures { Puts out.old len (report_of checkers listed.now strict.now) result out.new }
 {
     let mut top = [0u8; 256];

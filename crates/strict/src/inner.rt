@@ -31,7 +31,11 @@ pub fn list(t: &[u64; 4096], b: RetractableBoard, slots: &mut [u16]) -> Result<u
 }
 
 // Refusals 1 to 7, then the list with its 13.
-pub fn strict_into(t: &[u64; 4096], b: RetractableBoard, slots: &mut [u16]) -> Result<usize, Unlisted>
+pub fn strict_into(
+    t: &[u64; 4096],
+    b: RetractableBoard,
+    slots: &mut [u16],
+) -> Result<usize, Unlisted>
     requires { IsBetween t.now }
     ensures { Lists b slots.old result slots.new }
 {
@@ -62,7 +66,11 @@ pub fn last_move(t: &[u64; 4096], b: RetractableBoard) -> Result<bool, Refusal>
 }
 
 // Refusals 1 to 7, then a search from a place on.
-pub fn strict_from(t: &[u64; 4096], b: RetractableBoard, start: usize) -> Result<Option<Placed>, Refusal>
+pub fn strict_from(
+    t: &[u64; 4096],
+    b: RetractableBoard,
+    start: usize,
+) -> Result<Option<Placed>, Refusal>
     requires { IsBetween t.now }
     ensures { Finds b start result }
 {

@@ -46,10 +46,7 @@ pub(super) fn replay(line: &[u8], out: &mut [u8; 65536]) -> usize
 fn earlier(raw: Raw) -> Boarded {
     let form = raw.form;
     match form {
-        Form::OutOfForm => board::inner::board_by(
-            Err(Refusal::Text),
-            board::no_board(),
-        ),
+        Form::OutOfForm => board::inner::board_by(Err(Refusal::Text), board::no_board()),
         Form::InForm => {
             let p = raw.position;
             let t = tables::between_table();

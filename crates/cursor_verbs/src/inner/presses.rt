@@ -1,8 +1,8 @@
 // Any value of the cursor, read from a question's fields, pressed once and put.
 ghost use Rattle.puts.specs.inner.Growing.{Grows};
 
-use laws::ChessRetraction;
 use super::entries;
+use laws::ChessRetraction;
 use retraction_gen::RetractionGen;
 use retraction_list::{SourceAndTargets, UnCaptureKind};
 

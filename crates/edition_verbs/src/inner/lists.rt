@@ -43,7 +43,12 @@ fn counted(l: Result<usize, Unlisted>) -> usize {
     }
 }
 
-fn put_listed(l: Result<usize, Unlisted>, first: usize, slots: &[u16], out: &mut [u8; 65536]) -> usize
+fn put_listed(
+    l: Result<usize, Unlisted>,
+    first: usize,
+    slots: &[u16],
+    out: &mut [u8; 65536],
+) -> usize
     ensures { Grows 0 result }
 {
     match l {

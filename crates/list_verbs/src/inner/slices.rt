@@ -94,7 +94,12 @@ fn put_list(
     put_slots(slots, out, n)
 }
 
-fn listed(t: &[u64; 4096], strict: bool, today: Boarded, slots: &mut [u16]) -> Result<usize, Unlisted>
+fn listed(
+    t: &[u64; 4096],
+    strict: bool,
+    today: Boarded,
+    slots: &mut [u16],
+) -> Result<usize, Unlisted>
     requires { IsBetween t.now }
 {
     let v = today.verdict;
@@ -108,7 +113,12 @@ fn listed(t: &[u64; 4096], strict: bool, today: Boarded, slots: &mut [u16]) -> R
 }
 
 // The strict list, or the ported one.
-fn into(t: &[u64; 4096], strict: bool, b: RetractableBoard, slots: &mut [u16]) -> Result<usize, Unlisted>
+fn into(
+    t: &[u64; 4096],
+    strict: bool,
+    b: RetractableBoard,
+    slots: &mut [u16],
+) -> Result<usize, Unlisted>
     requires { IsBetween t.now }
 {
     if strict {
