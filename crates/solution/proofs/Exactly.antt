@@ -17,9 +17,10 @@ use Rattle.strict.specs.Demand.{Past, IsStrictList}
 use Rattle.solution_lines.specs.declared.Formed.TheVariants.{All}
 use Rattle.solution_lines.specs.Lines.{lines_of, line_at, Says, Among, NoneOf, TellsForm}
 use Rattle.solution_lines.specs.inner.Reading.{leniently}
+use Rattle.solution.specs.declared.Why.{Why}
 use Rattle.solution.specs.declared.Why.TheVariants.{Position}
 use Rattle.solution.specs.declared.Checked.{Checked}
-use Rattle.solution.specs.declared.Checked.TheVariants.{Complete, Refused as notChecked}
+use Rattle.solution.specs.declared.Checked.TheVariants.{Complete}
 use Rattle.solution.specs.Verdicts.{IsWrong, IsSaid, Tells, TellsOf, Checks}
 use Rattle.squares.proofs.Testing.{cases}
 use Rattle.laws.proofs.StrictMembers.{strict_in}
@@ -28,11 +29,11 @@ use Rattle.strict.proofs.Told.{strict_past}
 use Rattle.solution_lines.proofs.Inverse.{says_one, says_something}
 use Rattle.solution.proofs.Answering.{one_answer}
 use Rattle.refusal.specs.Refusals.{Verdict, nothing_refused}
-use Rattle.std.specs.Prelude.{Ok, Err}
+use Rattle.std.specs.Prelude.{Result, Ok, Err}
 
 -- of an accepted position, each of `Complete`, `Wrong k`, `Incomplete q`, 23 with its line and 24 is answered exactly when its rule holds
-module _ (e : Edition) (t s : List ℕ) (a : Checked) (x : Checks e t s a) (h : x.read.verdict ≡ nothing_refused) where
-  pub exactly : (v : Checked) → (a ≡ v) ↔ Tells (Past x.read.board) (lines_of s) v
+module _ (e : Edition) (t s : List ℕ) (a : Result Checked Why) (x : Checks e t s a) (h : x.read.verdict ≡ nothing_refused) where
+  pub exactly : (v : Result Checked Why) → (a ≡ v) ↔ Tells (Past x.read.board) (lines_of s) v
   exactly v = (
     (λ q. subst (Tells (Past x.read.board) (lines_of s)) q (subst (λ (z : Verdict). TellsOf z x.read.board (lines_of s) a) h x.told)),
     (λ z. one_answer e t s a v x
@@ -67,7 +68,7 @@ module _ (e : Edition) (t s : List ℕ) (a : Checked) (x : Checks e t s a) (h : 
 
   -- "the lines are exactly the strict list": of a list l that is the strict one, complete exactly when all lines are in form and at most 4,096, none repeats an
   -- earlier one, and they say what l has, and nothing else
-  pub complete_list : (l : List ChessRetraction) → IsStrictList x.read.board l → (a ≡ Complete)
+  pub complete_list : (l : List ChessRetraction) → IsStrictList x.read.board l → (a ≡ Ok Complete)
       ↔ (TellsForm (lines_of s) All × NoneOf (length (lines_of s)) (λ i. Among (lines_of s) i (line_at (lines_of s) i))
       × ((r : ChessRetraction) → InRange r → IsSaid (lines_of s) r ↔ In r l))
   complete_list l m = (to, back)
@@ -75,21 +76,21 @@ module _ (e : Edition) (t s : List ℕ) (a : Checked) (x : Checks e t s a) (h : 
       in_range : (r : ChessRetraction) → Past x.read.board r → InRange r
       in_range r p = strict_in (pos_on x.read.board) r ((strict_past x.read.board (read_accepted e t x.read x.reads h).0 r).1 p)
 
-      to : a ≡ Complete → TellsForm (lines_of s) All × NoneOf (length (lines_of s)) (λ i. Among (lines_of s) i (line_at (lines_of s) i))
+      to : a ≡ Ok Complete → TellsForm (lines_of s) All × NoneOf (length (lines_of s)) (λ i. Among (lines_of s) i (line_at (lines_of s) i))
           × ((r : ChessRetraction) → InRange r → IsSaid (lines_of s) r ↔ In r l)
       to z =
-          let w = (exactly Complete).0 z in
+          let w = (exactly (Ok Complete)).0 z in
           (w.0, (λ i j k. w.1 i j (inr k)), λ r k. ((λ u. (m.members r).1 (said r k u)), (λ u. w.2 r ((m.members r).0 u))))
         where
           said : (r : ChessRetraction) → InRange r → IsSaid (lines_of s) r → Past x.read.board r
           said r k u =
-              let w = (exactly Complete).0 z in
+              let w = (exactly (Ok Complete)).0 z in
               let g = ((not_wrong w.0 u.0 u.1).0 (w.1 u.0 u.1)).0 in
               subst (Past x.read.board) (says_one g.1 (k, sym u.2)) g.2
 
       back : TellsForm (lines_of s) All × NoneOf (length (lines_of s)) (λ i. Among (lines_of s) i (line_at (lines_of s) i))
-          × ((r : ChessRetraction) → InRange r → IsSaid (lines_of s) r ↔ In r l) → a ≡ Complete
-      back y = (exactly Complete).1 (
+          × ((r : ChessRetraction) → InRange r → IsSaid (lines_of s) r ↔ In r l) → a ≡ Ok Complete
+      back y = (exactly (Ok Complete)).1 (
         y.0,
         (λ i j. (not_wrong y.0 i j).1 (
           (leniently (line_at (lines_of s) i), line_says y.0 i j, (m.members _).0 ((y.2 _ (line_says y.0 i j).0).0 (i, j, sym (line_says y.0 i j).1))),
@@ -99,10 +100,10 @@ module _ (e : Edition) (t s : List ℕ) (a : Checked) (x : Checks e t s a) (h : 
       )
 
 -- and a position is refused by its own number exactly when it is not accepted
-pub refused_exactly : (e : Edition) (t s : List ℕ) (a : Checked) (x : Checks e t s a) (why : Refusal) → (a ≡ notChecked (Position why)) ↔ (x.read.verdict ≡ Err why)
+pub refused_exactly : (e : Edition) (t s : List ℕ) (a : Result Checked Why) (x : Checks e t s a) (why : Refusal) → (a ≡ Err (Position why)) ↔ (x.read.verdict ≡ Err why)
 refused_exactly e t s a x why = by x.read.verdict refl x.told
   where
-    by : (v : Verdict) → x.read.verdict ≡ v → TellsOf v x.read.board (lines_of s) a → (a ≡ notChecked (Position why)) ↔ (x.read.verdict ≡ Err why)
+    by : (v : Verdict) → x.read.verdict ≡ v → TellsOf v x.read.board (lines_of s) a → (a ≡ Err (Position why)) ↔ (x.read.verdict ≡ Err why)
     by (Ok _) h z = (
       (λ q. absurd (subst (Tells (Past x.read.board) (lines_of s)) q z)),
       (λ q. absurd (omega (arith, (let w : ◌≡◌ {A = ℕ} 0 1 = cc in w)))),
@@ -110,9 +111,9 @@ refused_exactly e t s a x why = by x.read.verdict refl x.told
     by (Err w) h z = ((λ q. let i : w ≡ why = cc in h ∙ cc), (λ q. let i : w ≡ why = cc in z ∙ cc))
 
 -- "a claim of no last move is an empty set of lines": complete exactly when no retraction has a past
-pub no_lines : (e : Edition) (t : List ℕ) (a : Checked) (x : Checks e t [] a) → x.read.verdict ≡ nothing_refused → (a ≡ Complete) ↔ ((r : ChessRetraction) → Past x.read.board r → ⊥)
+pub no_lines : (e : Edition) (t : List ℕ) (a : Result Checked Why) (x : Checks e t [] a) → x.read.verdict ≡ nothing_refused → (a ≡ Ok Complete) ↔ ((r : ChessRetraction) → Past x.read.board r → ⊥)
 unfolding lines_of
 no_lines e t a x h = (
-  (λ q r z. omega (arith, (((exactly e t [] a x h Complete).0 q).2 r z).1)),
-  (λ f. (exactly e t [] a x h Complete).1 ((omega arith, λ i l. absurd (omega arith)), (λ i l. absurd (omega arith)), (λ r z. absurd (f r z)))),
+  (λ q r z. omega (arith, (((exactly e t [] a x h (Ok Complete)).0 q).2 r z).1)),
+  (λ f. (exactly e t [] a x h (Ok Complete)).1 ((omega arith, λ i l. absurd (omega arith)), (λ i l. absurd (omega arith)), (λ r z. absurd (f r z)))),
 )

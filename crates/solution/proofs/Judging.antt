@@ -11,7 +11,6 @@ use Rattle.chunks.specs.Newlines.{stop_from}
 use Rattle.laws.specs.declared.ChessRetraction.{ChessRetraction}
 use Rattle.laws.specs.Positions.{Pos}
 use Rattle.laws.specs.Retractions.{InRange}
-use Rattle.laws.specs.Strictness.{strict}
 use Rattle.laws.specs.StrictLists.{place}
 use Rattle.rows.specs.inner.Marked.{marked, Marks}
 use Rattle.strict_test.specs.inner.Strictly.{strict_for}
@@ -20,10 +19,11 @@ use Rattle.solution_lines.specs.declared.Formed.TheVariants.{All}
 use Rattle.solution_lines.specs.Lines.{lines_of, line_at, Says, Among, NoneOf, TellsForm}
 use Rattle.solution_lines.specs.inner.Reading.{leniently}
 use Rattle.solution.specs.declared.Checked.{Checked}
-use Rattle.solution.specs.declared.Checked.TheVariants.{Complete, Wrong, Incomplete, Refused as notChecked}
+use Rattle.solution.specs.declared.Checked.TheVariants.{Complete, Wrong, Incomplete}
 use Rattle.solution.specs.Verdicts.{IsWrong, IsSaid, Tells}
 use Rattle.solution.specs.inner.Marked.{Lacks}
 use Rattle.solution.specs.inner.Judged.{StrictAt}
+use Rattle.std.specs.Prelude.{Ok}
 use Rattle.squares.proofs.Testing.{left, right, failed, granted, order}
 use Rattle.laws.proofs.StrictMembers.{placed_place, strict_in}
 use Rattle.strict.proofs.Told.{place_placed}
@@ -68,7 +68,7 @@ module _ (p : Pos) (s w : List ℕ) (at n : ℕ) (g : Goes p s w at n) (f : Tell
   right_one z (inl k) = k r says (left _ _ (sym tq ∙ granted t z))
   right_one z (inr k) = failed (marked w i) (right (strict_for p r) _ (sym tq ∙ granted t z)) (said.1 k)
 
-  pub tells_wrong : not t ≡ true → Tells (StrictAt p) (lines_of s) (Wrong (n + 1))
+  pub tells_wrong : not t ≡ true → Tells (StrictAt p) (lines_of s) (Ok (Wrong (n + 1)))
   tells_wrong z = (f, first_so (IsWrong (StrictAt p) (lines_of s)) s at n g.through h stop e (wrong z))
 
   pub goes_on : not t ≡ false → (next : ℕ) → next ≡ cond (ltb stop (length s)) (stop + 1) (length s) → (x : List ℕ) → Marks w i x → Goes p s x next (n + 1)
@@ -93,7 +93,7 @@ module _ (p : Pos) (s w : List ℕ) (at n : ℕ) (g : Goes p s w at n) (f : Tell
   unfolding test_of
   passes r z = ap (strict_for p) (placed_place r (in_range r z)) ∙ z
 
-  pub tells_end : (v : Checked) → Lacks (test_of p) (marked w) v → Tells (StrictAt p) (lines_of s) v
+  pub tells_end : (v : Checked) → Lacks (test_of p) (marked w) v → Tells (StrictAt p) (lines_of s) (Ok v)
   unfolding test_of
   tells_end Complete a =
       (f, none_wrong, λ r z. (seen.at r (in_range r z)).0 (a (place r) (place_in r (in_range r z)) (passes r z)))
@@ -112,4 +112,3 @@ module _ (p : Pos) (s w : List ℕ) (at n : ℕ) (g : Goes p s w at n) (f : Tell
       go : (r : ChessRetraction) → StrictAt p r → (IsSaid (lines_of s) r → ⊥) → (place r < a.0) ⊎ (a.0 ≤ place r) → place q ≤ place r
       go r z u (inl l) = absurd (u ((seen.at r (in_range r z)).0 (a.5 (place r) l (passes r z))))
       go r z u (inr l) = subst (λ (i : ℕ). i ≤ place r) (sym place_q) l
-  tells_end (notChecked why) a = absurd a

@@ -1,5 +1,5 @@
 -- What is answered to a solution, document 02's request 10.
-use Rattle.std.specs.Prelude.{◌≡◌, ◌⊎◌, List, ℕ, ◌≤◌, length, Ok, Err}
+use Rattle.std.specs.Prelude.{◌≡◌, ◌⊎◌, List, ℕ, ◌≤◌, length, Result, Ok, Err}
 use Rattle.laws.specs.declared.ChessRetraction.{ChessRetraction}
 use Rattle.laws.specs.declared.Edition.{Edition}
 use Rattle.laws.specs.StrictLists.{place}
@@ -14,7 +14,7 @@ use Rattle.solution_lines.specs.Lines.{lines_of, Says, line_at, Among, NoneOf, F
 use Rattle.solution.specs.declared.Why.{Why}
 use Rattle.solution.specs.declared.Why.TheVariants.{Position, Line, Many}
 use Rattle.solution.specs.declared.Checked.{Checked}
-use Rattle.solution.specs.declared.Checked.TheVariants.{Complete, Wrong, Incomplete, Refused as notChecked}
+use Rattle.solution.specs.declared.Checked.TheVariants.{Complete, Wrong, Incomplete}
 
 -- S tells which retractions the strict list has: those that have a past (`Checks`, below)
 -- "A line is wrong if it isn't in the strict list or repeats an earlier one"
@@ -33,21 +33,21 @@ pub record FirstMissing (S : ChessRetraction → Type 0) (ls : List (List ℕ)) 
 
 -- "Complete means that the lines are exactly the strict list": no line is wrong, and all of the list is said; or "the first wrong line"; or, of "a set that
 -- has no wrong line but lacks some", the first missing. "Any refusal comes before a verdict": all lines are in form and not too many
-abbrev pub Tells : (ChessRetraction → Type 0) → List (List ℕ) → Checked → Type 0
-Tells S ls Complete = TellsForm ls All × NoneOf (length ls) (IsWrong S ls) × ((r : ChessRetraction) → S r → IsSaid ls r)
-Tells S ls (Wrong k) = TellsForm ls All × FirstOf (length ls) (IsWrong S ls) k
-Tells S ls (Incomplete q) = TellsForm ls All × NoneOf (length ls) (IsWrong S ls) × FirstMissing S ls q
-Tells S ls (notChecked (Line k)) = TellsForm ls (formLine k)
-Tells S ls (notChecked Many) = TellsForm ls formMany
-Tells S ls (notChecked (Position why)) = ⊥
+abbrev pub Tells : (ChessRetraction → Type 0) → List (List ℕ) → Result Checked Why → Type 0
+Tells S ls (Ok Complete) = TellsForm ls All × NoneOf (length ls) (IsWrong S ls) × ((r : ChessRetraction) → S r → IsSaid ls r)
+Tells S ls (Ok (Wrong k)) = TellsForm ls All × FirstOf (length ls) (IsWrong S ls) k
+Tells S ls (Ok (Incomplete q)) = TellsForm ls All × NoneOf (length ls) (IsWrong S ls) × FirstMissing S ls q
+Tells S ls (Err (Line k)) = TellsForm ls (formLine k)
+Tells S ls (Err Many) = TellsForm ls formMany
+Tells S ls (Err (Position why)) = ⊥
 
 -- "14 and 1 to 6 for the position" come first
-abbrev pub TellsOf : Verdict → RetractableBoard → List (List ℕ) → Checked → Type 0
-TellsOf (Err why) b ls a = a ≡ notChecked (Position why)
+abbrev pub TellsOf : Verdict → RetractableBoard → List (List ℕ) → Result Checked Why → Type 0
+TellsOf (Err why) b ls a = a ≡ Err (Position why)
 TellsOf (Ok _) b ls a = Tells (Past b) ls a
 
 -- the answer to the text t of a position, read in the edition e, and the bytes s of its solution
-pub record Checks (e : Edition) (t s : List ℕ) (a : Checked) : Type 0 where
+pub record Checks (e : Edition) (t s : List ℕ) (a : Result Checked Why) : Type 0 where
   pub read : Boarded
   pub reads : Reads e t read
   pub told : TellsOf read.verdict read.board (lines_of s) a

@@ -1,5 +1,5 @@
 // The verdict on the lines of an accepted position. `t` is the table of squares between, lent.
-ghost use Rattle.std.specs.Prelude.{◌≡◌, not, ◌<◌};
+ghost use Rattle.std.specs.Prelude.{◌≡◌, not, ◌<◌, Ok};
 ghost use Rattle.squares.specs.Tests.{◌and◌};
 ghost use Rattle.geometry.specs.Lines.{IsBetween};
 ghost use Rattle.laws.specs.Boards.{pos_at};
@@ -51,7 +51,7 @@ fn missing(t: &[u64; 4096], p: Position, seen: &[u64; 768]) -> Checked
 // The first wrong line, or what is missing. All lines are in form.
 fn verdict(t: &[u64; 4096], p: Position, lines: &[u8]) -> Checked
     requires { (IsBetween t.now × Today p) × TellsForm (lines_of lines.now) All }
-    ensures { Tells (StrictAt (pos_at p)) (lines_of lines.now) result }
+    ensures { Tells (StrictAt (pos_at p)) (lines_of lines.now) (Ok result) }
 {
     let mut seen = [0u64; 768];
     let mut at = 0;
@@ -72,14 +72,13 @@ fn verdict(t: &[u64; 4096], p: Position, lines: &[u8]) -> Checked
 }
 
 // The form of all lines, and then the verdict.
-pub fn judged(t: &[u64; 4096], p: Position, lines: &[u8]) -> Checked
+pub fn judged(t: &[u64; 4096], p: Position, lines: &[u8]) -> Result<Checked, Why>
     requires { IsBetween t.now × Today p }
     ensures { Tells (StrictAt (pos_at p)) (lines_of lines.now) result }
 {
-    let f = solution_lines::form_of(lines);
-    match f {
-        Formed::Line(n) => Checked::Refused(Why::Line(n)),
-        Formed::Many => Checked::Refused(Why::Many),
-        Formed::All => verdict(t, p, lines),
+    match solution_lines::form_of(lines) {
+        Formed::Line(n) => Err(Why::Line(n)),
+        Formed::Many => Err(Why::Many),
+        Formed::All => Ok(verdict(t, p, lines)),
     }
 }

@@ -23,7 +23,6 @@ pub enum Checked {
     Complete,
     Wrong(usize),
     Incomplete(ChessRetraction),
-    Refused(Why),
 }
 
 // The number of a refusal.
@@ -38,17 +37,11 @@ pub fn number(why: Why) -> u8
 }
 
 // Holds the lines of a solution to the strict list of a position, a text that the caller reads in an edition.
-pub fn check(position: &[u8], edition: Edition, lines: &[u8]) -> Checked
+pub fn check(position: &[u8], edition: Edition, lines: &[u8]) -> Result<Checked, Why>
     ensures { Checks edition position.now lines.now result }
 {
     let t = tables::between_table();
     let b = text::inner::read(&t, position, edition);
-    let v = b.verdict;
-    match v {
-        Err(why) => Checked::Refused(Why::Position(why)),
-        Ok(()) => {
-            let board = b.board;
-            inner::judged(&t, strict::inner::today(board), lines)
-        }
-    }
+    b.verdict.map_err(Why::Position)?;
+    inner::judged(&t, strict::inner::today(b.board), lines)
 }

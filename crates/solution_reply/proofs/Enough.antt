@@ -13,9 +13,10 @@ use Rattle.text.specs.Entries.{Reads, said, unsaid}
 use Rattle.strict.specs.Demand.{Past}
 use Rattle.solution_lines.specs.declared.Formed.TheVariants.{All, Line as formLine, Many as formMany}
 use Rattle.solution_lines.specs.Lines.{lines_of}
+use Rattle.solution.specs.declared.Why.{Why}
 use Rattle.solution.specs.declared.Why.TheVariants.{Position, Line, Many}
 use Rattle.solution.specs.declared.Checked.{Checked}
-use Rattle.solution.specs.declared.Checked.TheVariants.{Complete, Wrong, Incomplete, Refused as notChecked}
+use Rattle.solution.specs.declared.Checked.TheVariants.{Complete, Wrong, Incomplete}
 use Rattle.solution.specs.Verdicts.{Tells, TellsOf, Checks}
 use Rattle.solution_reply.specs.Replies.{stop_of, position_in, solution_in, Replies}
 use Rattle.squares.proofs.Testing.{order}
@@ -25,16 +26,16 @@ use Rattle.text.proofs.RoundTrip.{read_accepted}
 use Rattle.reply.proofs.Shown.{text_short}
 use Rattle.solution_lines.proofs.Beginnings.{same_form}
 use Rattle.refusal.specs.Refusals.{Verdict, nothing_refused}
-use Rattle.std.specs.Prelude.{Err}
+use Rattle.std.specs.Prelude.{Result, Ok, Err}
 
 -- where the lines' first bytes tell the form, they tell the answer
-tells_enough : (S : ChessRetraction → Type 0) (u v : List ℕ) → 36874 ≤ length u → (a : Checked) → Tells S (lines_of u) a → Tells S (lines_of (u ++ v)) a
-tells_enough S u v h Complete x = absurd ((same_form u v h All x.0).1 refl)
-tells_enough S u v h (Wrong k) x = absurd ((same_form u v h All x.0).1 refl)
-tells_enough S u v h (Incomplete q) x = absurd ((same_form u v h All x.0).1 refl)
-tells_enough S u v h (notChecked (Line k)) x = (same_form u v h (formLine k) x).0
-tells_enough S u v h (notChecked Many) x = (same_form u v h formMany x).0
-tells_enough S u v h (notChecked (Position why)) x = absurd x
+tells_enough : (S : ChessRetraction → Type 0) (u v : List ℕ) → 36874 ≤ length u → (a : Result Checked Why) → Tells S (lines_of u) a → Tells S (lines_of (u ++ v)) a
+tells_enough S u v h (Ok Complete) x = absurd ((same_form u v h All x.0).1 refl)
+tells_enough S u v h (Ok (Wrong k)) x = absurd ((same_form u v h All x.0).1 refl)
+tells_enough S u v h (Ok (Incomplete q)) x = absurd ((same_form u v h All x.0).1 refl)
+tells_enough S u v h (Err (Line k)) x = (same_form u v h (formLine k) x).0
+tells_enough S u v h (Err Many) x = (same_form u v h formMany x).0
+tells_enough S u v h (Err (Position why)) x = absurd x
 
 -- a text that is accepted is short
 read_short : (t : List ℕ) (r : Boarded) → Reads A t r → r.verdict ≡ nothing_refused → length t ≤ 81
@@ -81,14 +82,14 @@ module _ (f : List ℕ) (long : 65536 < length f) where
         ap₂ (λ (k : ℕ) (x : List ℕ). drop (suc k) x) same_stop whole
         ∙ drop-append-le (suc (stop_of g)) g (drop 65536 f) (omega (arith, g_long))
 
-    told_too : (r : Boarded) → Reads A (position_in g) r → (v : Verdict) → r.verdict ≡ v → (a : Checked) → TellsOf v r.board (lines_of (solution_in g)) a → TellsOf v r.board (lines_of (solution_in f)) a
+    told_too : (r : Boarded) → Reads A (position_in g) r → (v : Verdict) → r.verdict ≡ v → (a : Result Checked Why) → TellsOf v r.board (lines_of (solution_in g)) a → TellsOf v r.board (lines_of (solution_in f)) a
     told_too r x (Err why) e a t = t
     told_too r x nothing_refused e a t =
         let size = length-take-le (stop_of g) g (omega (arith, g_long)) in
         subst (λ (y : List ℕ). Tells (Past r.board) (lines_of y) a) (sym more_lines)
         (tells_enough (Past r.board) (solution_in g) (drop 65536 f) (omega (arith, length-drop (suc (stop_of g)) g, g_long, read_short (position_in g) r x e, size)) a t)
 
-    here : (a : Checked) → Checks A (position_in g) (solution_in g) a → Checks A (position_in f) (solution_in f) a
+    here : (a : Result Checked Why) → Checks A (position_in g) (solution_in g) a → Checks A (position_in f) (solution_in f) a
     here a c = record {
       read = c.read;
       reads = subst (λ (y : List ℕ). Reads A y c.read) same_position c.reads;
@@ -113,19 +114,19 @@ module _ (f : List ℕ) (long : 65536 < length f) where
     no_text r (unsaid n e k) =
         unsaid (λ p s. omega (arith, says_short A (position_in f) p s, too_long f far_stop (omega (arith, (stop_within f 0 (length f)).1)))) e k
 
-    refused_too : (r : Boarded) → Reads A (position_in g) r → (v : Verdict) → r.verdict ≡ v → (a : Checked) → TellsOf v r.board (lines_of (solution_in g)) a → TellsOf v r.board (lines_of (solution_in f)) a
+    refused_too : (r : Boarded) → Reads A (position_in g) r → (v : Verdict) → r.verdict ≡ v → (a : Result Checked Why) → TellsOf v r.board (lines_of (solution_in g)) a → TellsOf v r.board (lines_of (solution_in f)) a
     refused_too r x (Err why) e a t = t
     refused_too r x nothing_refused e a t =
         absurd (omega (arith, read_short (position_in g) r x e, too_long g h (omega (arith, within, g_long))))
 
-    beyond : (a : Checked) → Checks A (position_in g) (solution_in g) a → Checks A (position_in f) (solution_in f) a
+    beyond : (a : Result Checked Why) → Checks A (position_in g) (solution_in g) a → Checks A (position_in f) (solution_in f) a
     beyond a c = record {
       read = c.read;
       reads = no_text c.read c.reads;
       told = refused_too c.read c.reads c.read.verdict refl a c.told;
     }
 
-  checks_enough : (a : Checked) → Checks A (position_in g) (solution_in g) a → Checks A (position_in f) (solution_in f) a
+  checks_enough : (a : Result Checked Why) → Checks A (position_in g) (solution_in g) a → Checks A (position_in f) (solution_in f) a
   checks_enough a c = go (order (stop_of g) 65536)
     where
       go : (stop_of g < 65536) ⊎ (65536 ≤ stop_of g) → Checks A (position_in f) (solution_in f) a

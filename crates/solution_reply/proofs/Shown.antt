@@ -1,7 +1,7 @@
 -- What the buffer shows of a verdict.
 use mathlib.Core.Path.{◌≡◌, sym, subst}
 use mathlib.Core.List.{List, ◌++◌}
-use Prim.Native.Nat.{ℕ, ◌+◌, ◌≤◌, ◌<◌, ◌^◌}
+use Prim.Native.Nat.{ℕ, ◌≤◌, ◌<◌, ◌^◌}
 use native.Mathlib.Omega.{arith}
 use lib.ListN.{length, length-append}
 use Rattle.laws.specs.declared.ChessRetraction.{ChessRetraction}
@@ -11,6 +11,7 @@ use Rattle.reply.specs.Replies.{newline, Shows}
 use Rattle.solution.specs.declared.Why.{Why}
 use Rattle.solution.specs.declared.Checked.{Checked}
 use Rattle.solution_reply.specs.Replies.{incomplete_word, numbered_text, incomplete_text, refusal_text, verdict_text}
+use Rattle.std.specs.Prelude.{Result}
 use Rattle.output.proofs.Adding.{adds_then}
 use Rattle.rows.proofs.Decimals.{number_short, decimal_added}
 use Rattle.reply.proofs.Shown.{shown}
@@ -34,8 +35,8 @@ incomplete_shown o o₁ o₂ o₃ a d n r f l e p q z =
 
 -- the text of an answer, by what it was
 module _ {n : ℕ} {o out : List ℕ} where
-  pub verdict_shown : {a b : Checked} → a ≡ b → Shows (verdict_text b) n o out → Shows (verdict_text a) n o out
-  verdict_shown e s = subst (λ (t : Checked). Shows (verdict_text t) n o out) (sym e) s
+  pub verdict_shown : {a b : Result Checked Why} → a ≡ b → Shows (verdict_text b) n o out → Shows (verdict_text a) n o out
+  verdict_shown e s = subst (λ (t : Result Checked Why). Shows (verdict_text t) n o out) (sym e) s
 
   pub refusal_shown : {v w : Why} → v ≡ w → Shows (refusal_text w) n o out → Shows (refusal_text v) n o out
   refusal_shown e s = subst (λ (t : Why). Shows (refusal_text t) n o out) (sym e) s

@@ -14,9 +14,11 @@ use Rattle.io.specs.Counts.{IsPrefixLen}
 use Rattle.chunks.specs.Newlines.{stop_from}
 use Rattle.laws.specs.declared.Edition.TheVariants.{A}
 use Rattle.reply.specs.Replies.{Shows}
+use Rattle.solution.specs.declared.Why.{Why}
 use Rattle.solution.specs.declared.Checked.{Checked}
 use Rattle.solution.specs.Verdicts.{Checks}
 use Rattle.solution_reply.specs.Replies.{verdict_text, stop_of, position_in, solution_in, Replies}
+use Rattle.std.specs.Prelude.{Result}
 use Rattle.squares.proofs.Testing.{order}
 use Rattle.solution_lines.proofs.Cutting.{drop_over}
 use Rattle.solution.proofs.Answering.{one_answer}
@@ -36,7 +38,7 @@ module _ (f : List ℕ) (stop below : ℕ) (e : stop ≡ stop_from f 0 (length f
           ap (λ (i : ℕ). drop i f) (p ∙ ap (λ (b : Bool). cond b (stop + 1) (length f)) (le-ltb stop (length f) l))
           ∙ drop_over f (length f) (omega arith) ∙ sym (drop_over f (suc stop) (omega arith))
 
-  pub answered : (a : Checked) → Checks A (take stop f) (take (length f - below) (drop below f)) a → {n : ℕ} {o out : List ℕ} → Shows (verdict_text a) n o out → Replies f n o out
+  pub answered : (a : Result Checked Why) → Checks A (take stop f) (take (length f - below) (drop below f)) a → {n : ℕ} {o out : List ℕ} → Shows (verdict_text a) n o out → Replies f n o out
   answered a c z = record {
     told = a;
     checks =

@@ -1,5 +1,5 @@
 -- What is answered to a file of an entrant: "the position on the first line, then the lines, to the end of the file".
-use Rattle.std.specs.Prelude.{List, [], ◌∷◌, ◌++◌, ℕ, suc, length, take, drop}
+use Rattle.std.specs.Prelude.{Result, Ok, Err, List, [], ◌∷◌, ◌++◌, ℕ, suc, length, take, drop}
 use Rattle.chunks.specs.Newlines.{stop_from}
 use Rattle.laws.specs.declared.ChessRetraction.{ChessRetraction}
 use Rattle.laws.specs.declared.Edition.TheVariants.{A}
@@ -8,7 +8,7 @@ use Rattle.reply.specs.Replies.{word, newline, refused_text, Shows}
 use Rattle.solution.specs.declared.Why.{Why}
 use Rattle.solution.specs.declared.Why.TheVariants.{Position, Line, Many}
 use Rattle.solution.specs.declared.Checked.{Checked}
-use Rattle.solution.specs.declared.Checked.TheVariants.{Complete, Wrong, Incomplete, Refused as notChecked}
+use Rattle.solution.specs.declared.Checked.TheVariants.{Complete, Wrong, Incomplete}
 use Rattle.solution.specs.Verdicts.{why_number, Checks}
 
 -- the bytes of `complete`, `wrong ` and `incomplete `
@@ -36,11 +36,11 @@ refusal_text (Line k) = numbered_text (word ++ decimal_of (why_number (Line k)) 
 refusal_text Many = refused_text (why_number Many)
 
 -- "one of `complete`, `wrong N`, `incomplete ROW` .., `refused N`, `refused 23 LINE`"
-abbrev pub verdict_text : Checked → List ℕ
-verdict_text Complete = complete_word ++ newline
-verdict_text (Wrong k) = numbered_text wrong_word k
-verdict_text (Incomplete r) = incomplete_text r
-verdict_text (notChecked why) = refusal_text why
+abbrev pub verdict_text : Result Checked Why → List ℕ
+verdict_text (Ok Complete) = complete_word ++ newline
+verdict_text (Ok (Wrong k)) = numbered_text wrong_word k
+verdict_text (Ok (Incomplete r)) = incomplete_text r
+verdict_text (Err why) = refusal_text why
 
 -- the place of the first newline of a file, or its end; what stands before it, and what stands below
 abbrev pub stop_of : List ℕ → ℕ
@@ -54,6 +54,6 @@ solution_in f = drop (suc (stop_of f)) f
 
 -- the file f is answered, its position read in edition A
 pub record Replies (f : List ℕ) (n : ℕ) (o out : List ℕ) : Type 0 where
-  pub told : Checked
+  pub told : Result Checked Why
   pub checks : Checks A (position_in f) (solution_in f) told
   pub shows : Shows (verdict_text told) n o out

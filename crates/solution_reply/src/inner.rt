@@ -38,13 +38,13 @@ fn put_refusal(why: Why, out: &mut [u8; 196608]) -> usize
 }
 
 // The verdict, to a line.
-pub fn put_verdict(told: Checked, out: &mut [u8; 196608]) -> usize
+pub fn put_verdict(told: Result<Checked, Why>, out: &mut [u8; 196608]) -> usize
     ensures { Shows (verdict_text told) result out.old out.new }
 {
     match told {
-        Checked::Complete => output::put_bytes(out, 0, b"complete\n").unwrap_or(0),
-        Checked::Wrong(k) => put_numbered(b"wrong ", k, out),
-        Checked::Incomplete(r) => put_incomplete(r, out),
-        Checked::Refused(why) => put_refusal(why, out),
+        Ok(Checked::Complete) => output::put_bytes(out, 0, b"complete\n").unwrap_or(0),
+        Ok(Checked::Wrong(k)) => put_numbered(b"wrong ", k, out),
+        Ok(Checked::Incomplete(r)) => put_incomplete(r, out),
+        Err(why) => put_refusal(why, out),
     }
 }

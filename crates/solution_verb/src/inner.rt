@@ -3,7 +3,7 @@ ghost use Rattle.std.specs.Prelude.{◌≤◌};
 ghost use Rattle.puts.specs.inner.Growing.{Grows};
 
 use laws::Edition;
-use solution::Checked;
+use solution::{Checked, Why};
 
 // The answer to a line of this verb, 0 bytes to any other.
 pub fn answer(line: &[u8], out: &mut [u8; 65536]) -> usize
@@ -36,14 +36,14 @@ fn ended(b: u8) -> u8 {
 }
 
 // The verdict on the solution in the first n bytes.
-fn checked(position: &[u8], room: &[u8; 65536], n: usize) -> Checked
+fn checked(position: &[u8], room: &[u8; 65536], n: usize) -> Result<Checked, Why>
     requires { n ≤ 65536 }
 {
     let lines: &[u8] = room;
     solution::check(position, Edition::A, &lines[..n])
 }
 
-fn put_verdict(told: Checked, out: &mut [u8; 65536]) -> usize
+fn put_verdict(told: Result<Checked, Why>, out: &mut [u8; 65536]) -> usize
     ensures { Grows 0 result }
 {
     let mut text = [0u8; 196608];

@@ -1,13 +1,14 @@
 -- `solution::check` meets its contract.
+use mathlib.Core.Path.{refl}
 use Rattle.text.proofs.RoundTrip.{read_accepted}
-use Rattle.solution.proofs.Answering.{checks_refused, checks_told}
+use Rattle.solution.proofs.Answering.{position_let, checks_handed, checks_told}
 use Rattle.solution.proofs.check.Goals as goal
 
 pub today-requires : goal.today-requires
-today-requires c = (read_accepted _ _ _ c.read-b.ensures c.in-Ok.is).0
+today-requires c = (read_accepted _ _ _ c.read-b.ensures (position_let _ c.map_err.ensures.cases c.in_ok-map_err.was)).0
 
-pub returns-in-Err : goal.returns-in-Err
-returns-in-Err c = checks_refused _ _ _ _ c.read-b.ensures _ c.in-Err.is
+pub returns-in_err-map_err : goal.returns-in_err-map_err
+returns-in_err-map_err c = checks_handed _ _ _ _ c.read-b.ensures _ refl c.map_err.ensures.cases c.in_err-map_err.was _ c.from_residual.ensures.1
 
-pub returns-in-Ok : goal.returns-in-Ok
-returns-in-Ok c = checks_told _ _ _ _ c.read-b.ensures c.judged.result c.today.result c.in-Ok.is c.today.ensures.0 c.judged.ensures
+pub returns : goal.returns
+returns c = checks_told _ _ _ _ c.read-b.ensures c.judged.result c.today.result (position_let _ c.map_err.ensures.cases c.in_ok-map_err.was) c.today.ensures.0 c.judged.ensures

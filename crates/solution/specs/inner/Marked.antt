@@ -2,7 +2,7 @@
 use Rattle.std.specs.Prelude.{◌≡◌, Bool, true, false, ℕ, ◌<◌}
 use Rattle.laws.specs.StrictLists.{retraction_at}
 use Rattle.solution.specs.declared.Checked.{Checked}
-use Rattle.solution.specs.declared.Checked.TheVariants.{Complete, Wrong, Incomplete, Refused as notChecked}
+use Rattle.solution.specs.declared.Checked.TheVariants.{Complete, Wrong, Incomplete}
 
 -- all places below n that pass f are marked by m
 abbrev pub AllMarked : (ℕ → Bool) → (ℕ → Bool) → ℕ → Type 0
@@ -13,4 +13,3 @@ abbrev pub Lacks : (ℕ → Bool) → (ℕ → Bool) → Checked → Type 0
 Lacks f m Complete = AllMarked f m 49152
 Lacks f m (Wrong k) = ⊥
 Lacks f m (Incomplete q) = (j : ℕ) × (j < 49152) × (q ≡ retraction_at j) × (f j ≡ true) × (m j ≡ false) × AllMarked f m j
-Lacks f m (notChecked why) = ⊥

@@ -1,7 +1,6 @@
 -- `solution::inner::missing` meets its contract.
 use mathlib.Core.Path.{sym, ap, ◌∙◌}
 use mathlib.Core.Bool.{not}
-use Prim.Native.Nat.{◌-◌}
 use native.Mathlib.Omega.{arith}
 use Rattle.strict_search.proofs.Remaining.{inner}
 use Rattle.solution.proofs.Marking.{so_far, and_on, all_marked, lacks_here}

@@ -1,7 +1,6 @@
 -- `solution::inner::verdict` meets its contract.
 use mathlib.Core.Path.{ap}
 use mathlib.Core.Bool.{not}
-use Prim.Native.Nat.{◌-◌}
 use native.Mathlib.Omega.{arith}
 use Rattle.laws.specs.Boards.{pos_at}
 use Rattle.solution_lines.proofs.Cutting.{next_on}
