@@ -16,7 +16,6 @@ enum Question {
     Attacked(u8, Color),
     Passant(EnPassantFlag),
     Unmake(ChessRetraction),
-    Nothing,
 }
 
 // The answer to a line of one of these verbs, 0 bytes to any other.
@@ -38,37 +37,36 @@ pub fn answer_with(t: &[u64; 4096], line: &[u8], out: &mut [u8; 65536]) -> usize
     if fields::inner::starts(line, b"replay\t") {
         return made::replay(line, out);
     }
-    let what = asked(line);
-    match what {
-        Question::Nothing => 0,
-        known => of_text(t, known, line, out),
-    }
+    let Some(what) = asked(line) else {
+        return 0;
+    };
+    of_text(t, what, line, out)
 }
 
 // Behind the text stands a square, a square and a colour, a state, a retraction, or nothing.
-fn asked(line: &[u8]) -> Question {
+fn asked(line: &[u8]) -> Option<Question> {
     let text = fields::inner::after(line, 0, b'\t');
     let at = fields::inner::after(line, text, b'\t');
     if fields::inner::starts(line, b"uncertain\t") {
-        return Question::Uncertain;
+        return Some(Question::Uncertain);
     }
     if fields::inner::starts(line, b"piece\t") {
-        return Question::Piece(fields::inner::decimal(line, at));
+        return Some(Question::Piece(fields::inner::decimal(line, at)));
     }
     if fields::inner::starts(line, b"attacked\t") {
         let color = fields::inner::turn(fields::inner::byte(
             line,
             fields::inner::after(line, at, b'\t'),
         ));
-        return Question::Attacked(fields::inner::decimal(line, at), color);
+        return Some(Question::Attacked(fields::inner::decimal(line, at), color));
     }
     if fields::inner::starts(line, b"setep\t") {
-        return Question::Passant(fields::inner::state(line, at));
+        return Some(Question::Passant(fields::inner::state(line, at)));
     }
     if fields::inner::starts(line, b"unmake\t") {
-        return Question::Unmake(fields::inner::retraction(line, at));
+        return Some(Question::Unmake(fields::inner::retraction(line, at)));
     }
-    Question::Nothing
+    None
 }
 
 fn of_text(t: &[u64; 4096], what: Question, line: &[u8], out: &mut [u8; 65536]) -> usize
@@ -95,6 +93,5 @@ fn of_board(what: Question, b: RetractableBoard, out: &mut [u8; 65536]) -> usize
         Question::Attacked(sq, color) => told::put_attacked(b.is_attacked(sq, color), out),
         Question::Passant(state) => board_field::inner::put_boarded(b.set_en_passant(state), out),
         Question::Unmake(r) => told::put_unmade(b.make_retraction_new(r), out),
-        Question::Nothing => 0,
     }
 }

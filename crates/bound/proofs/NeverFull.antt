@@ -22,7 +22,7 @@ use Rattle.retraction_list.specs.declared.SourceAndTargets.{SourceAndTargets}
 use Rattle.retraction_gen.specs.declared.Made.{Made}
 use Rattle.retraction_gen.specs.Making.{list_on, full_test, list_tests, cursor_on, no_cursor, Makes}
 use Rattle.retraction_gen.specs.Sequence.{sequence_on}
-use Rattle.slots.specs.declared.Listed.{Listed}
+use Rattle.slots.specs.declared.Unlisted.{Unlisted}
 use Rattle.slots.specs.Slots.{listed_says}
 use Rattle.limited.specs.Limiting.{limited_says, names_square, flipped, pawnless_on, nothing_on, side_of, sides_of, limited_from, limited_of}
 use Rattle.bound.specs.Limits.{men, limit, Enough}
@@ -85,7 +85,7 @@ module _ (b : RetractableBoard) (shape : Shaped (to_laws b)) (accepted : first_f
     makes r k = (k.number ∙ passes, k.cursor ∙ sym (beside_none (list_tests b) (cursor_on b) no_cursor passes))
 
     -- the list is written, or 13 is given
-    pub lists : (o after : List ℕ) (r : Listed) → Writes (list_tests b) (map packed (sequence_on b)) o (listed_says r) after
+    pub lists : (o after : List ℕ) (r : Result ℕ Unlisted) → Writes (list_tests b) (map packed (sequence_on b)) o (listed_says r) after
         → listed_says r ≡ fitting (length (map packed (sequence_on b))) (length o)
     lists o after r k = k.answer ∙ sym (behind_by nothing_refused (list_tests b) _ (sym passes))
 

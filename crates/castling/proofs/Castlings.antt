@@ -12,6 +12,8 @@ use Rattle.laws.specs.declared.ChessRetraction.{ChessRetraction}
 use Rattle.laws.specs.Men.{man, same_man}
 use Rattle.laws.specs.Positions.{Pos, retractor, king_to}
 use Rattle.laws.specs.Boards.{men_in, pos_at, Clean}
+use Rattle.std.specs.Prelude.{Result, Ok, Err}
+use Rattle.refusal.specs.declared.Refusal.{Refusal}
 use Rattle.refusal.specs.declared.Refusal.TheVariants.{Step}
 use Rattle.refusal.specs.Refusals.{verdict_number, Verdict, nothing_refused}
 use Rattle.refusal.specs.Said.{Test, first_failing, Said, behind}
@@ -20,8 +22,7 @@ use Rattle.unmake.specs.Retracted.{unmade_for, unmade_to}
 use Rattle.board.specs.declared.RetractableBoard.{RetractableBoard}
 use Rattle.board.specs.Gate.{gate_of, board_tests}
 use Rattle.board.specs.Moving.{unmake_tests}
-use Rattle.castling.specs.declared.Castling.{Castling}
-use Rattle.castling.specs.declared.Castling.TheVariants.{Attackers, Refused}
+use Rattle.castling.specs.declared.KingsWay.{KingsWay}
 use Rattle.castling.specs.Castlings.{uncastling, uncastle_tests, kings_way, way_before, castling_says}
 use Rattle.castling.specs.inner.Kings.{king_after}
 use Rattle.laws.proofs.Retracting.{can_retract}
@@ -78,8 +79,8 @@ gate_said b us x {v} e h =
     ∙ sym (behind_more (board_tests b) us x)
 
 -- any two answers agree
-pub castling_one : (x y : Castling) → castling_says x ≡ castling_says y → x ≡ y
-castling_one (Attackers v) (Attackers w) h = λ i. Attackers (record { home = a i; crossed = b i; reached = c i })
+pub castling_one : (x y : Result KingsWay Refusal) → castling_says x ≡ castling_says y → x ≡ y
+castling_one (Ok v) (Ok w) h = λ i. Ok (record { home = a i; crossed = b i; reached = c i })
   where
     a : v.home ≡ w.home
     a = cc
@@ -89,6 +90,6 @@ castling_one (Attackers v) (Attackers w) h = λ i. Attackers (record { home = a 
 
     c : v.reached ≡ w.reached
     c = cc
-castling_one (Refused r) (Refused q) h = ap Refused (number_one r q (cc))
-castling_one (Attackers v) (Refused q) h = let z : ◌≡◌ {A = ℕ} 0 1 = cc in absurd (omega arith)
-castling_one (Refused r) (Attackers w) h = let z : ◌≡◌ {A = ℕ} 0 1 = cc in absurd (omega arith)
+castling_one (Err r) (Err q) h = ap Err (number_one r q (cc))
+castling_one (Ok v) (Err q) h = let z : ◌≡◌ {A = ℕ} 0 1 = cc in absurd (omega arith)
+castling_one (Err r) (Ok w) h = let z : ◌≡◌ {A = ℕ} 0 1 = cc in absurd (omega arith)

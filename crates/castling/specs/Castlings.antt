@@ -1,6 +1,6 @@
 -- Which men forbid a castling. The Laws forbid it (3.8) "if the square on which the king stands, or the square which it must cross, or the
 -- square which it is to occupy, is attacked by one or more of the opponent's pieces": the men are those of the board before it.
-use Rattle.std.specs.Prelude.{false, List, [], ◌∷◌, ◌++◌}
+use Rattle.std.specs.Prelude.{false, List, [], ◌∷◌, ◌++◌, Result, Ok, Err}
 use Rattle.geometry.specs.declared.Color.{Color}
 use Rattle.geometry.specs.Colors.{opp}
 use Rattle.laws.specs.declared.Piece.TheVariants.{King}
@@ -10,12 +10,11 @@ use Rattle.laws.specs.Men.{man, Men, same_man}
 use Rattle.laws.specs.Attacks.{attackers_of}
 use Rattle.laws.specs.Positions.{Pos, retractor, king_home, king_to, rook_to}
 use Rattle.laws.specs.Unmaking.{unmade}
+use Rattle.refusal.specs.declared.Refusal.{Refusal}
 use Rattle.refusal.specs.declared.Refusal.TheVariants.{Step}
 use Rattle.refusal.specs.Said.{Test, ◌else◌, Said, told, refusal}
 use Rattle.board.specs.Moving.{unmake_tests}
 use Rattle.castling.specs.declared.KingsWay.{KingsWay}
-use Rattle.castling.specs.declared.Castling.{Castling}
-use Rattle.castling.specs.declared.Castling.TheVariants.{Attackers, Refused}
 
 -- the castling of c on a side, taken back
 abbrev pub uncastling : Color → Side → ChessRetraction
@@ -39,6 +38,6 @@ unfoldable pub way_before : Pos → Side → KingsWay
 way_before p d = kings_way (unmade p (uncastling (retractor p) d)).men (retractor p) d
 
 -- three sets, in the order of the way
-abbrev pub castling_says : Castling → Said
-castling_says (Attackers w) = told (w.home ∷ w.crossed ∷ w.reached ∷ [])
-castling_says (Refused r) = refusal r
+abbrev pub castling_says : Result KingsWay Refusal → Said
+castling_says (Ok w) = told (w.home ∷ w.crossed ∷ w.reached ∷ [])
+castling_says (Err r) = refusal r

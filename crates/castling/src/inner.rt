@@ -3,11 +3,10 @@ ghost use Rattle.std.specs.Prelude.{◌≡◌};
 ghost use Rattle.geometry.specs.Lines.{IsBetween};
 ghost use Rattle.laws.specs.Boards.{men_in, pos_at, Clean};
 ghost use Rattle.refusal.specs.Said.{behind};
-ghost use Rattle.castling.specs.declared.Castling.TheVariants.{Attackers};
 ghost use Rattle.castling.specs.Castlings.{uncastling, uncastle_tests, kings_way, way_before, castling_says};
 ghost use Rattle.castling.specs.inner.Kings.{king_after};
 
-use super::{Castling, KingsWay};
+use super::KingsWay;
 use laws::{ChessRetraction, Color, Piece, Position, Side};
 use refusal::{Refusal, Verdict};
 
@@ -64,9 +63,9 @@ fn kings_way(e: Position, c: Color, side: Side) -> KingsWay
 }
 
 // The king's way before the castling: refusals 9 to 12.
-pub fn uncastled(t: &[u64; 4096], p: Position, side: Side) -> Castling
+pub fn uncastled(t: &[u64; 4096], p: Position, side: Side) -> Result<KingsWay, Refusal>
     requires { IsBetween t.now × Clean p.pieces p.colors }
-    ensures { castling_says result ≡ behind (uncastle_tests (pos_at p) side) (castling_says (Attackers (way_before (pos_at p) side))) }
+    ensures { castling_says result ≡ behind (uncastle_tests (pos_at p) side) (castling_says (Ok (way_before (pos_at p) side))) }
 {
     let turn = p.turn;
     let c = geometry::other(turn);
@@ -75,10 +74,10 @@ pub fn uncastled(t: &[u64; 4096], p: Position, side: Side) -> Castling
     let possible = u.verdict;
     let v = king_after(possible, p, c, r.source);
     match v {
-        Err(w) => Castling::Refused(w),
+        Err(w) => Err(w),
         Ok(()) => {
             let e = u.position;
-            Castling::Attackers(kings_way(e, c, side))
+            Ok(kings_way(e, c, side))
         }
     }
 }

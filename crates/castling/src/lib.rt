@@ -4,7 +4,6 @@
 ghost use Rattle.std.specs.Prelude.{◌≡◌, ◌++◌};
 ghost use Rattle.refusal.specs.Said.{behind};
 ghost use Rattle.board.specs.Gate.{pos_on, board_tests};
-ghost use Rattle.castling.specs.declared.Castling.TheVariants.{Attackers};
 ghost use Rattle.castling.specs.Castlings.{uncastle_tests, way_before, castling_says};
 
 use board::RetractableBoard;
@@ -21,20 +20,14 @@ pub struct KingsWay {
     pub reached: u64,
 }
 
-#[derive(Drop)]
-pub enum Castling {
-    Attackers(KingsWay),
-    Refused(Refusal),
-}
-
 // The attackers on the way of the king that castled last: refusals 1 to 7, then 9 to 12 of the un-castling on that side.
-pub fn attackers(b: RetractableBoard, side: Side) -> Castling
-    ensures { castling_says result ≡ behind (board_tests b ++ uncastle_tests (pos_on b) side) (castling_says (Attackers (way_before (pos_on b) side))) }
+pub fn attackers(b: RetractableBoard, side: Side) -> Result<KingsWay, Refusal>
+    ensures { castling_says result ≡ behind (board_tests b ++ uncastle_tests (pos_on b) side) (castling_says (Ok (way_before (pos_on b) side))) }
 {
     let t = tables::between_table();
     let v = board::inner::gate(&t, b);
     match v {
-        Err(w) => Castling::Refused(w),
+        Err(w) => Err(w),
         Ok(()) => {
             let p = board::inner::position_of(b);
             inner::uncastled(&t, p, side)

@@ -16,7 +16,6 @@ enum Question {
     Masks,
     Sequence,
     Presses,
-    Nothing,
 }
 
 // The answer to a line of one of these verbs, 0 bytes to any other.
@@ -38,27 +37,26 @@ pub fn answer_with(t: &[u64; 4096], line: &[u8], out: &mut [u8; 65536]) -> usize
     if fields::inner::starts(line, b"press\t") {
         return presses::press(true, line, out);
     }
-    let what = asked(line);
-    match what {
-        Question::Nothing => 0,
-        known => of_text(t, known, line, out),
-    }
+    let Some(what) = asked(line) else {
+        return 0;
+    };
+    of_text(t, what, line, out)
 }
 
-fn asked(line: &[u8]) -> Question {
+fn asked(line: &[u8]) -> Option<Question> {
     if fields::inner::starts(line, b"entries\t") {
-        return Question::Entries;
+        return Some(Question::Entries);
     }
     if fields::inner::starts(line, b"masks\t") {
-        return Question::Masks;
+        return Some(Question::Masks);
     }
     if fields::inner::starts(line, b"sequence\t") {
-        return Question::Sequence;
+        return Some(Question::Sequence);
     }
     if fields::inner::starts(line, b"presses\t") {
-        return Question::Presses;
+        return Some(Question::Presses);
     }
-    Question::Nothing
+    None
 }
 
 fn of_text(t: &[u64; 4096], what: Question, line: &[u8], out: &mut [u8; 65536]) -> usize
@@ -84,7 +82,6 @@ fn of_board(what: Question, b: RetractableBoard, out: &mut [u8; 65536]) -> usize
         Question::Masks => entries::put_masks(retraction_gen::uncaptured_candidates(b), out),
         Question::Sequence => sequences::put(false, RetractionGen::new_legal(b), out),
         Question::Presses => sequences::put(true, RetractionGen::new_legal(b), out),
-        Question::Nothing => 0,
     }
 }
 

@@ -1,5 +1,5 @@
 -- The lines that document 01 marks with †: one table, and what its lines say, by the contracts of the public functions.
-use Rattle.std.specs.Prelude.{◌≡◌, List, [], ◌∷◌, ℕ, ◌+◌, ◌*◌, get_or}
+use Rattle.std.specs.Prelude.{◌≡◌, List, [], ◌∷◌, ℕ, ◌+◌, ◌*◌, get_or, Result}
 use Prim.Native.String.{String}
 use Rattle.squares.specs.Squares.{set_of}
 use Rattle.geometry.specs.declared.Color.{Color}
@@ -15,7 +15,7 @@ use Rattle.laws.specs.Retractions.{packed, unpacked, InRange}
 use Rattle.laws.specs.StrictLists.{In}
 use Rattle.board.specs.declared.RetractableBoard.{RetractableBoard}
 use Rattle.board.specs.declared.Boarded.{Boarded}
-use Rattle.slots.specs.declared.Listed.{Listed}
+use Rattle.slots.specs.declared.Unlisted.{Unlisted}
 use Rattle.strict.specs.Demand.{Lists}
 use Rattle.text.specs.Entries.{Reads}
 use Rattle.daggers.specs.Names.{bytes, square, named, back}
@@ -38,7 +38,7 @@ OnText t P = (b : Boarded) → Reads A (bytes t) b → (b.verdict ≡ nothing_re
 
 -- whatever `strict_into` may answer on the text's board, P holds of its list
 abbrev pub StrictOf : String → (List ChessRetraction → Type 0) → Type 0
-StrictOf t P = OnText t (λ b. (s after : List ℕ) (a : Listed) (x : Lists b s a after) → P x.moves)
+StrictOf t P = OnText t (λ b. (s after : List ℕ) (a : Result ℕ Unlisted) (x : Lists b s a after) → P x.moves)
 
 -- so many pawns, knights and queens, and nothing else
 abbrev pub men : ℕ → ℕ → ℕ → Piece → ℕ

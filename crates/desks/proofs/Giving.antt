@@ -7,6 +7,7 @@ use native.Mathlib.Omega.{arith}
 use lib.Dec.{eqb, ltb}
 use lib.ListN.{length, get_or, set}
 use lib.Seq.{get_or-set_same, get_or-set_other}
+use Rattle.std.specs.Prelude.{Result, Ok, Err}
 use borrow.Author.Tests.{eqb-true, eqb-false, ltb-true}
 use Rattle.geometry.specs.declared.Color.{Color}
 use Rattle.geometry.specs.declared.Color.TheVariants.{White, Black}
@@ -18,8 +19,6 @@ use Rattle.board.specs.declared.RetractableBoard.{RetractableBoard}
 use Rattle.board.specs.Gate.{to_laws, board_tests, no_board}
 use Rattle.desks.specs.declared.Why.{Why}
 use Rattle.desks.specs.declared.Why.TheVariants.{Absent, Quota}
-use Rattle.desks.specs.declared.Stand.{Stand}
-use Rattle.desks.specs.declared.Stand.TheVariants.{At, Refused as noStand}
 use Rattle.desks.specs.Desks.{Place, free, held, lowest, Found, put, fetch, Answer, refuses, grants, fetched_from, Met, none, places, met_at, answer_met, answer_in, places_after, found_after, passes, answer_of, after_of}
 use Rattle.place.specs.Words.{words_at, board_read}
 use Rattle.desks.specs.Layout.{base, board_at, mark_at, place_at, places_from, table_of}
@@ -78,10 +77,10 @@ module _ (s : List ℕ) (fit : (i : ℕ) → get_or s i 0 < 2 ^ 64) where
   place_good free k h = refused_good Absent h
   place_good (held b) k h = tested_good b (eqb (first_failing (board_tests b)) 0) refl (k b refl) h
 
-  stand_good : (n : ℕ) (st : Stand) → Good (answer_met (met_by st s) (fetch n))
+  stand_good : (n : ℕ) (st : Result (ℕ × ℕ) Why) → Good (answer_met (met_by st s) (fetch n))
   unfolding answer_in
-  stand_good n (noStand w) h = refused_good w h
-  stand_good n (At p q) h = place_good (get_or (places_from s p q) n free) (places_shaped p q n) h
+  stand_good n (Err w) h = refused_good w h
+  stand_good n (Ok st) h = place_good (get_or (places_from s st.0 st.1) n free) (places_shaped st.0 st.1 n) h
 
 pub fetches_accepted : FetchesAccepted
 unfolding FetchesAccepted answer_of first_failing

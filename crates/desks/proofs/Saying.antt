@@ -5,15 +5,12 @@ use mathlib.Core.List.{List, [], ◌∷◌}
 use Prim.Native.Nat.{ℕ, ◌+◌}
 use lib.Dec.{eqb}
 use lib.ListN.{get_or, set}
+use Rattle.std.specs.Prelude.{Result, Ok, Err}
 use Rattle.refusal.specs.declared.Refusal.TheVariants.{Men as men, Kings as kings, Pawn as pawn, Rights as rights, Passant as passant, Check as check, Stale as stale, Full as full, Source as source, Target as target, Held as held, Step as step, Room as room, Text as text}
 use Rattle.refusal.specs.Said.{number_said}
 use Rattle.desks.specs.declared.Why.{Why}
 use Rattle.desks.specs.declared.Why.TheVariants.{Board, Desk, Quota, Absent}
-use Rattle.desks.specs.declared.Placed.{Placed}
-use Rattle.desks.specs.declared.Placed.TheVariants.{Number, Refused as notPlaced}
-use Rattle.desks.specs.declared.Told.{Told}
-use Rattle.desks.specs.declared.Told.TheVariants.{Done, Refused as notTold}
-use Rattle.desks.specs.declared.Fetched.{Fetched}
+use Rattle.board.specs.declared.RetractableBoard.{RetractableBoard}
 use Rattle.desks.specs.Desks.{why_number, Ask, Answer}
 use Rattle.desks.specs.Calls.{placed_answer, told_answer, fetched_answer, value_said, first_of, left_by, Answers, cleared, SetsUp}
 use Rattle.desks.proofs.Standing.{some_why}
@@ -51,26 +48,29 @@ why_one w v h = sym (by_number w) ∙ ap why_by h ∙ by_number v
 no_why : (w : Why) → 0 ≡ why_number w → ⊥
 no_why w h = false≢true (sym (some_why w) ∙ ap (λ (n : ℕ). eqb n 0) (sym h))
 
--- any two answers that say the same are the same
-told_said : (x y : Told) → (told_answer x).said ≡ (told_answer y).said → x ≡ y
-told_said Done Done h = refl
-told_said (notTold w) (notTold v) h = ap notTold (why_one w v (ap number_said h))
-told_said Done (notTold v) h = absurd (no_why v (ap number_said h))
-told_said (notTold w) Done h = absurd (no_why w (sym (ap number_said h)))
+-- any two results that say the same are the same
+told_said : (x y : Result (Unit {0}) Why) → (told_answer x).said ≡ (told_answer y).said → x ≡ y
+told_said (Ok u) (Ok v) h = refl
+told_said (Err w) (Err v) h = ap Err (why_one w v (ap number_said h))
+told_said (Ok u) (Err v) h = absurd (no_why v (ap number_said h))
+told_said (Err w) (Ok u) h = absurd (no_why w (sym (ap number_said h)))
 
-pub told_one : (x y : Told) → told_answer x ≡ told_answer y → x ≡ y
+pub told_one : (x y : Result (Unit {0}) Why) → told_answer x ≡ told_answer y → x ≡ y
 told_one x y h = told_said x y (ap (λ (r : Answer). r.said) h)
 
-pub fetched_one : (x y : Fetched) → fetched_answer x ≡ fetched_answer y → x ≡ y
-fetched_one x y h = λ i. record { told = told_said x.told y.told (ap (λ (r : Answer). r.said) h) i; board = (h i).board }
+pub fetched_one : (x y : Result RetractableBoard Why) → fetched_answer x ≡ fetched_answer y → x ≡ y
+fetched_one (Ok b) (Ok c) h = ap Ok (ap (λ (r : Answer). r.board) h)
+fetched_one (Err w) (Err v) h = ap Err (why_one w v (ap (λ (r : Answer). number_said r.said) h))
+fetched_one (Ok b) (Err v) h = absurd (no_why v (ap (λ (r : Answer). number_said r.said) h))
+fetched_one (Err w) (Ok c) h = absurd (no_why w (sym (ap (λ (r : Answer). number_said r.said) h)))
 
-placed_said : (x y : Placed) → (placed_answer x).said ≡ (placed_answer y).said → x ≡ y
-placed_said (Number n) (Number m) h = ap Number (ap value_said h)
-placed_said (notPlaced w) (notPlaced v) h = ap notPlaced (why_one w v (ap number_said h))
-placed_said (Number n) (notPlaced v) h = absurd (no_why v (ap number_said h))
-placed_said (notPlaced w) (Number m) h = absurd (no_why w (sym (ap number_said h)))
+placed_said : (x y : Result ℕ Why) → (placed_answer x).said ≡ (placed_answer y).said → x ≡ y
+placed_said (Ok n) (Ok m) h = ap Ok (ap value_said h)
+placed_said (Err w) (Err v) h = ap Err (why_one w v (ap number_said h))
+placed_said (Ok n) (Err v) h = absurd (no_why v (ap number_said h))
+placed_said (Err w) (Ok m) h = absurd (no_why w (sym (ap number_said h)))
 
-pub placed_one : (x y : Placed) → placed_answer x ≡ placed_answer y → x ≡ y
+pub placed_one : (x y : Result ℕ Why) → placed_answer x ≡ placed_answer y → x ≡ y
 placed_one x y h = placed_said x y (ap (λ (r : Answer). r.said) h)
 
 -- any two answers to a call, or a set-up, agree, and so does what the slice then holds

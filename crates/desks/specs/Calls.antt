@@ -1,28 +1,26 @@
 -- What each call promises: its answer by the table that the lent slice holds, and what the slice holds afterwards.
-use Rattle.std.specs.Prelude.{◌≡◌, cond, List, [], ◌∷◌, ℕ, zero, suc, ◌+◌, eqb, length, set}
+use Rattle.std.specs.Prelude.{◌≡◌, cond, List, [], ◌∷◌, ℕ, zero, suc, ◌+◌, eqb, length, set, Result, Ok, Err}
 use Rattle.std.proofs.Math.Seq.{paste}
-use Rattle.refusal.specs.Said.{Said, says, number_said}
+use Rattle.refusal.specs.Said.{Said, says, number_said, told}
+use Rattle.board.specs.declared.RetractableBoard.{RetractableBoard}
+use Rattle.desks.specs.declared.Why.{Why}
 use Rattle.desks.specs.declared.Why.TheVariants.{Quota}
-use Rattle.desks.specs.declared.Placed.{Placed}
-use Rattle.desks.specs.declared.Placed.TheVariants.{Number, Refused as notPlaced}
-use Rattle.desks.specs.declared.Told.{Told}
-use Rattle.desks.specs.declared.Told.TheVariants.{Done, Refused as notTold}
-use Rattle.desks.specs.declared.Fetched.{Fetched}
 use Rattle.desks.specs.Desks.{Ask, put, fetch, drop, Answer, refuses, grants, answer_of}
 use Rattle.place.specs.Words.{place_words, words_of}
 use Rattle.desks.specs.Layout.{base, quota_at, room, table_of}
 
--- the answers that are enums, by what they say
-abbrev pub placed_answer : Placed → Answer
-placed_answer (Number n) = grants (n ∷ [])
-placed_answer (notPlaced w) = refuses w
+-- the calls' results, by what they say
+abbrev pub placed_answer : Result ℕ Why → Answer
+placed_answer (Ok n) = grants (n ∷ [])
+placed_answer (Err w) = refuses w
 
-abbrev pub told_answer : Told → Answer
-told_answer Done = grants []
-told_answer (notTold w) = refuses w
+abbrev pub told_answer : Result (Unit {0}) Why → Answer
+told_answer (Ok u) = grants []
+told_answer (Err w) = refuses w
 
-abbrev pub fetched_answer : Fetched → Answer
-fetched_answer r = record { said = (told_answer r.told).said; board = r.board }
+abbrev pub fetched_answer : Result RetractableBoard Why → Answer
+fetched_answer (Ok b) = record { said = told []; board = b }
+fetched_answer (Err w) = refuses w
 
 -- the first place of a desk: the second desk's places stand behind the first one's
 abbrev pub first_of : List ℕ → (desk : ℕ) → ℕ

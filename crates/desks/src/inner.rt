@@ -1,11 +1,11 @@
 // A desk's places in the lent slice.
 ghost use Rattle.std.specs.Prelude.{◌≡◌, ◌+◌, ◌*◌, ◌≤◌, length};
-ghost use Rattle.desks.specs.Desks.{put, fetch, drop, held, fetched_from, refuses, lowest};
+ghost use Rattle.desks.specs.Desks.{put, fetch, drop, held, fetched_from, lowest};
 ghost use Rattle.desks.specs.Layout.{base, room, fits, places_from};
 ghost use Rattle.desks.specs.Calls.{placed_answer, told_answer, fetched_answer, cleared};
 ghost use Rattle.desks.specs.inner.Within.{stand_of, stand_behind, AnswersAt};
 
-use super::{Fetched, Placed, Stand, Told, Why};
+use super::Why;
 use board::RetractableBoard;
 use refusal::Verdict;
 
@@ -38,30 +38,30 @@ fn has_fit(table: &[u64]) -> bool
     has_room(n, table[0], table[1])
 }
 
-// 20, 21 as found, or the desk's places.
-pub fn stand(table: &[u64], desk: u8) -> Stand
+// Where the desk's places start, and how many they are: refusals 20, 21 as found.
+pub fn stand(table: &[u64], desk: u8) -> Result<(usize, usize), Why>
     ensures { result ≡ stand_of table.now desk }
 {
     if desk > 1 {
-        return Stand::Refused(Why::Desk);
+        return Err(Why::Desk);
     }
     if !has_fit(table) {
-        return Stand::Refused(Why::Quota);
+        return Err(Why::Quota);
     }
     let first = table[0] as usize;
     if desk == 0 {
-        return Stand::At(0, first);
+        return Ok((0, first));
     }
     let second = table[1] as usize;
-    Stand::At(first, second)
+    Ok((first, second))
 }
 
 // The same behind 1 to 7 of a board.
-pub fn stand_behind(v: Verdict, table: &[u64], desk: u8) -> Stand
+pub fn stand_behind(v: Verdict, table: &[u64], desk: u8) -> Result<(usize, usize), Why>
     ensures { result ≡ stand_behind v table.now desk }
 {
     match v {
-        Err(w) => Stand::Refused(Why::Board(w)),
+        Err(w) => Err(Why::Board(w)),
         Ok(()) => stand(table, desk),
     }
 }
@@ -71,18 +71,16 @@ fn lowest(table: &[u64], first: usize, n: usize) -> usize
     requires { base (first + n) ≤ length table.now }
     ensures { result ≡ lowest (places_from table.now first n) }
 {
-    let mut i: usize = 0;
-    while i < n {
+    for i in 0..n {
         if table[(first + i) * PLACE + HEAD] == 0 {
             return i;
         }
-        i += 1;
     }
-    i
+    n
 }
 
 // A board goes to the lowest free one of n places: 21.
-pub fn put_at(table: &mut [u64], first: usize, n: usize, b: RetractableBoard) -> Placed
+pub fn put_at(table: &mut [u64], first: usize, n: usize, b: RetractableBoard) -> Result<usize, Why>
     requires { base (first + n) ≤ length table.old }
     ensures { AnswersAt table.old first n (put b) (placed_answer result) table.new }
 {
@@ -90,51 +88,40 @@ pub fn put_at(table: &mut [u64], first: usize, n: usize, b: RetractableBoard) ->
     if i < n {
         let w = place::inner::words_of(b);
         place::inner::store(table, (first + i) * PLACE + HEAD, w);
-        return Placed::Number(i);
+        return Ok(i);
     }
-    Placed::Refused(Why::Quota)
-}
-
-// A refusal beside the empty board.
-pub fn not_fetched(why: Why) -> Fetched
-    ensures { fetched_answer result ≡ refuses why }
-{
-    Fetched {
-        told: Told::Refused(why),
-        board: board::no_board(),
-    }
+    Err(Why::Quota)
 }
 
 // 1 to 7 of a board that was found.
-fn tested(b: RetractableBoard) -> Fetched
+fn tested(b: RetractableBoard) -> Result<RetractableBoard, Why>
     ensures { fetched_answer result ≡ fetched_from (held b) }
 {
     let judged = b.judge();
     let v = judged.verdict;
     let board = judged.board;
     match v {
-        Err(w) => Fetched {
-            told: Told::Refused(Why::Board(w)),
-            board,
-        },
-        Ok(()) => Fetched {
-            told: Told::Done,
-            board,
-        },
+        Err(r) => Err(Why::Board(r)),
+        Ok(()) => Ok(board),
     }
 }
 
 // The board with a number among n places: 22, then 1 to 7.
-pub fn fetch_at(table: &[u64], first: usize, n: usize, number: usize) -> Fetched
+pub fn fetch_at(
+    table: &[u64],
+    first: usize,
+    n: usize,
+    number: usize,
+) -> Result<RetractableBoard, Why>
     requires { base (first + n) ≤ length table.now }
     ensures { AnswersAt table.now first n (fetch number) (fetched_answer result) table.now }
 {
     if n <= number {
-        return not_fetched(Why::Absent);
+        return Err(Why::Absent);
     }
     let k = (first + number) * PLACE + HEAD;
     if table[k] == 0 {
-        return not_fetched(Why::Absent);
+        return Err(Why::Absent);
     }
     let w = place::inner::words_at(table, k);
     let b = place::inner::board_read(w);
@@ -142,19 +129,19 @@ pub fn fetch_at(table: &[u64], first: usize, n: usize, number: usize) -> Fetched
 }
 
 // A number among n places is free again: 22.
-pub fn drop_at(table: &mut [u64], first: usize, n: usize, number: usize) -> Told
+pub fn drop_at(table: &mut [u64], first: usize, n: usize, number: usize) -> Result<(), Why>
     requires { base (first + n) ≤ length table.old }
     ensures { AnswersAt table.old first n (drop number) (told_answer result) table.new }
 {
     if n <= number {
-        return Told::Refused(Why::Absent);
+        return Err(Why::Absent);
     }
     let k = (first + number) * PLACE + HEAD;
     if table[k] == 0 {
-        return Told::Refused(Why::Absent);
+        return Err(Why::Absent);
     }
     table[k] = 0;
-    Told::Done
+    Ok(())
 }
 
 // The marks of the first n places, off.
@@ -162,9 +149,7 @@ pub fn clear(table: &mut [u64], n: usize)
     requires { base n ≤ length table.old }
     ensures { table.new ≡ cleared table.old n }
 {
-    let mut i: usize = 0;
-    while i < n {
+    for i in 0..n {
         table[i * PLACE + HEAD] = 0;
-        i += 1;
     }
 }

@@ -19,33 +19,6 @@ pub enum Why {
     Absent,
 }
 
-// The number that a put gives.
-#[derive(Drop)]
-pub enum Placed {
-    Number(usize),
-    Refused(Why),
-}
-
-#[derive(Drop)]
-pub enum Told {
-    Done,
-    Refused(Why),
-}
-
-// A board, or a refusal beside the empty board.
-#[derive(Drop)]
-pub struct Fetched {
-    pub told: Told,
-    pub board: RetractableBoard,
-}
-
-// Where a desk's places start, and how many they are; or 20, 21.
-#[derive(Drop)]
-pub enum Stand {
-    At(usize, usize),
-    Refused(Why),
-}
-
 // The number of a refusal.
 pub fn number(why: Why) -> u8
     ensures { result ≡ why_number why }
@@ -59,50 +32,41 @@ pub fn number(why: Why) -> u8
 }
 
 // An empty table with the quotas of the two desks: refusal 21.
-pub fn set_up(table: &mut [u64], first: u64, second: u64) -> Told
+pub fn set_up(table: &mut [u64], first: u64, second: u64) -> Result<(), Why>
     ensures { SetsUp table.old first second (told_answer result) table.new }
 {
     if !inner::has_room(table.len(), first, second) {
-        return Told::Refused(Why::Quota);
+        return Err(Why::Quota);
     }
     table[0] = first;
     table[1] = second;
     let n = (first + second) as usize;
     inner::clear(table, n);
-    Told::Done
+    Ok(())
 }
 
-// A board goes to the desk's lowest free number: refusals 1 to 7, 20, 21.
-pub fn put(table: &mut [u64], desk: u8, b: RetractableBoard) -> Placed
+// A board goes to the desk's lowest free number, which is told: refusals 1 to 7, 20, 21.
+pub fn put(table: &mut [u64], desk: u8, b: RetractableBoard) -> Result<usize, Why>
     ensures { Answers table.old desk (put b) (placed_answer result) table.new }
 {
     let judged = b.judge();
     let v = judged.verdict;
-    let st = inner::stand_behind(v, table, desk);
-    match st {
-        Stand::Refused(why) => Placed::Refused(why),
-        Stand::At(first, quota) => inner::put_at(table, first, quota, b),
-    }
+    let (first, quota) = inner::stand_behind(v, table, desk)?;
+    inner::put_at(table, first, quota, b)
 }
 
 // The board with a desk's number: refusals 20, 21, 22, then 1 to 7 of what is found.
-pub fn fetch(table: &[u64], desk: u8, number: usize) -> Fetched
+pub fn fetch(table: &[u64], desk: u8, number: usize) -> Result<RetractableBoard, Why>
     ensures { Answers table.now desk (fetch number) (fetched_answer result) table.now }
 {
-    let st = inner::stand(table, desk);
-    match st {
-        Stand::Refused(why) => inner::not_fetched(why),
-        Stand::At(first, quota) => inner::fetch_at(table, first, quota, number),
-    }
+    let (first, quota) = inner::stand(table, desk)?;
+    inner::fetch_at(table, first, quota, number)
 }
 
 // A desk's number is free again: refusals 20, 21, 22.
-pub fn drop(table: &mut [u64], desk: u8, number: usize) -> Told
+pub fn drop(table: &mut [u64], desk: u8, number: usize) -> Result<(), Why>
     ensures { Answers table.old desk (drop number) (told_answer result) table.new }
 {
-    let st = inner::stand(table, desk);
-    match st {
-        Stand::Refused(why) => Told::Refused(why),
-        Stand::At(first, quota) => inner::drop_at(table, first, quota, number),
-    }
+    let (first, quota) = inner::stand(table, desk)?;
+    inner::drop_at(table, first, quota, number)
 }

@@ -3,7 +3,8 @@
 ghost use Rattle.std.specs.Prelude.{◌≤◌};
 ghost use Rattle.puts.specs.inner.Growing.{Grows};
 
-use desks::{Fetched, Placed, Told, Why};
+use board::RetractableBoard;
+use desks::Why;
 
 // The answer to a line of this verb, 0 bytes to any other.
 pub fn answer(line: &[u8], out: &mut [u8; 65536]) -> usize
@@ -37,15 +38,14 @@ fn put_calls(line: &[u8], table: &mut [u64], out: &mut [u8; 65536]) -> usize
     ensures { Grows 0 result }
 {
     let mut len = 0;
-    let mut i = fields::inner::past(line, 0, b'\t', 2);
+    let from = fields::inner::past(line, 0, b'\t', 2);
     let mut begins = true;
-    while i < line.len() {
+    for i in from..line.len() {
         let b = line[i];
-        i += 1;
         if b == b'\t' {
             return len;
         }
-        len = put_begun(begins & (b != b' '), b, line, i, table, out, len);
+        len = put_begun(begins & (b != b' '), b, line, i + 1, table, out, len);
         begins = b == b' ';
     }
     len
@@ -138,34 +138,30 @@ fn put_refused(why: Why, out: &mut [u8; 65536], len: usize) -> usize
     puts::inner::refused_by(out, len, desks::number(why))
 }
 
-fn put_placed(p: Placed, out: &mut [u8; 65536], len: usize) -> usize
+fn put_placed(p: Result<usize, Why>, out: &mut [u8; 65536], len: usize) -> usize
     ensures { Grows len result }
 {
     match p {
-        Placed::Number(n) => puts::inner::number(out, len, n as u64),
-        Placed::Refused(why) => put_refused(why, out, len),
+        Ok(n) => puts::inner::number(out, len, n as u64),
+        Err(why) => put_refused(why, out, len),
     }
 }
 
-fn put_told(t: Told, done: &[u8], out: &mut [u8; 65536], len: usize) -> usize
+fn put_told(t: Result<(), Why>, done: &[u8], out: &mut [u8; 65536], len: usize) -> usize
     ensures { Grows len result }
 {
     match t {
-        Told::Done => puts::inner::bytes(out, len, done),
-        Told::Refused(why) => put_refused(why, out, len),
+        Ok(()) => puts::inner::bytes(out, len, done),
+        Err(why) => put_refused(why, out, len),
     }
 }
 
-fn put_fetched(f: Fetched, out: &mut [u8; 65536], len: usize) -> usize
+fn put_fetched(f: Result<RetractableBoard, Why>, out: &mut [u8; 65536], len: usize) -> usize
     ensures { Grows len result }
 {
-    let t = f.told;
-    match t {
-        Told::Done => {
-            let b = f.board;
-            board_field::inner::put_text(b, out, len)
-        }
-        Told::Refused(why) => put_refused(why, out, len),
+    match f {
+        Ok(b) => board_field::inner::put_text(b, out, len),
+        Err(why) => put_refused(why, out, len),
     }
 }
 
@@ -194,10 +190,8 @@ fn put_words(table: &[u64], out: &mut [u8; 65536], len: usize) -> usize
     ensures { Grows len result }
 {
     let mut n = puts::inner::bytes(out, len, b"[");
-    let mut i = 0;
-    while i < table.len() {
-        n = puts::inner::member(out, n, i, table[i]);
-        i += 1;
+    for (i, w) in table.iter().enumerate() {
+        n = puts::inner::member(out, n, i, *w);
     }
     puts::inner::bytes(out, n, b"]")
 }

@@ -55,10 +55,8 @@ fn put_squares(out: &mut [u8], len: usize, d: Drawing, rank: u8) -> usize
     ensures { Adds out.old len (squares_text d rank) result out.new }
 {
     let mut at = len;
-    let mut file = 0u8;
-    while file < 8 {
+    for file in 0..8 {
         at = put_square(out, at, d, 8 * rank + file);
-        file += 1;
     }
     at
 }
@@ -78,10 +76,8 @@ fn put_ranks(out: &mut [u8], len: usize, d: Drawing) -> usize
     ensures { Adds out.old len (ranks_text d) result out.new }
 {
     let mut at = len;
-    let mut i = 0u8;
-    while i < 8 {
-        at = put_rank(out, at, d, 7 - i);
-        i += 1;
+    for rank in (0..8).rev() {
+        at = put_rank(out, at, d, rank);
     }
     at
 }

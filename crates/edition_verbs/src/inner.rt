@@ -12,12 +12,6 @@ mod lists; // lists.rt: the ported list and the strict one, put whole
 mod written; // written.rt: records read and written
 
 #[derive(Drop)]
-enum Named {
-    In(Edition),
-    Neither,
-}
-
-#[derive(Drop)]
 enum Question {
     List,
     StrictList,
@@ -28,7 +22,6 @@ enum Question {
     Checkers,
     Castling(Side),
     History(u8),
-    Nothing,
 }
 
 // The answer to a line of one of these verbs, 0 bytes to any other.
@@ -45,28 +38,21 @@ pub fn answer_with(t: &[u64; 4096], line: &[u8], out: &mut [u8; 65536]) -> usize
     ensures { Grows 0 result }
 {
     let at = fields::inner::after(line, 0, b'\t');
-    let e = edition_at(line, at);
-    match e {
-        Named::Neither => 0,
-        Named::In(edition) => in_edition(
-            t,
-            line,
-            fields::inner::after(line, at, b'\t'),
-            edition,
-            out,
-        ),
-    }
+    let Some(edition) = edition_at(line, at) else {
+        return 0;
+    };
+    in_edition(t, line, fields::inner::after(line, at, b'\t'), edition, out)
 }
 
-fn edition_at(line: &[u8], at: usize) -> Named {
+fn edition_at(line: &[u8], at: usize) -> Option<Edition> {
     if fields::inner::stop(line, at, b'\t') - at != 1 {
-        return Named::Neither;
+        return None;
     }
     let letter = fields::inner::byte(line, at);
     match letter {
-        b'A' => Named::In(Edition::A),
-        b'B' => Named::In(Edition::B),
-        _ => Named::Neither,
+        b'A' => Some(Edition::A),
+        b'B' => Some(Edition::B),
+        _ => None,
     }
 }
 
@@ -81,9 +67,10 @@ fn in_edition(
     requires { IsBetween t.now }
     ensures { Grows 0 result }
 {
-    let what = asked(line, at);
+    let Some(what) = asked(line, at) else {
+        return 0;
+    };
     match what {
-        Question::Nothing => 0,
         Question::Read => written::put_read(
             records::read(fields::inner::text(line, at), edition),
             out,
@@ -93,32 +80,32 @@ fn in_edition(
 }
 
 // Behind the text stand two counters, a square and a colour, a side, a depth, or nothing.
-fn asked(line: &[u8], at: usize) -> Question {
+fn asked(line: &[u8], at: usize) -> Option<Question> {
     if fields::inner::starts(line, b"list\t") {
-        return Question::List;
+        return Some(Question::List);
     }
     if fields::inner::starts(line, b"strictlist\t") {
-        return Question::StrictList;
+        return Some(Question::StrictList);
     }
     if fields::inner::starts(line, b"turn\t") {
-        return Question::Turn;
+        return Some(Question::Turn);
     }
     if fields::inner::starts(line, b"pgnread\t") {
-        return Question::Read;
+        return Some(Question::Read);
     }
     if fields::inner::starts(line, b"pgnwrite\t") {
         let half = fields::inner::after(line, at, b'\t');
         let full = fields::inner::after(line, half, b'\t');
-        return Question::Write(
+        return Some(Question::Write(
             fields::inner::counter(line, half),
             fields::inner::counter(line, full),
-        );
+        ));
     }
     if fields::inner::starts(line, b"history\t") {
-        return Question::History(fields::inner::decimal(
+        return Some(Question::History(fields::inner::decimal(
             line,
             fields::inner::after(line, at, b'\t'),
-        ));
+        )));
     }
     attacked::asked(line, at)
 }
@@ -163,6 +150,5 @@ fn of_board(t: &[u64; 4096], what: Question, b: RetractableBoard, out: &mut [u8;
             out,
         ),
         Question::Read => 0,
-        Question::Nothing => 0,
     }
 }

@@ -6,8 +6,8 @@ use board::{Boarded, RetractableBoard};
 use laws::{ChessRetraction, Color, EnPassantFlag};
 use refusal::{Refusal, Verdict};
 use retraction_gen::RetractionGen;
-use slots::Listed;
-use text::Printed;
+use slots::Unlisted;
+use text::Unprinted;
 
 // The answer to a line of this verb, 0 bytes to any other.
 pub fn answer(line: &[u8], out: &mut [u8; 65536]) -> usize
@@ -112,9 +112,9 @@ fn of_print(b: RetractableBoard) -> u64 {
     let mut bytes = [0u8; 1];
     let p = text::print(b, &mut bytes[..0]);
     match p {
-        Printed::Count(_) => 0,
-        Printed::Room(_) => of_refusal(Refusal::Room),
-        Printed::Refused(r) => of_refusal(r),
+        Ok(_) => 0,
+        Err(Unprinted::Room(_)) => of_refusal(Refusal::Room),
+        Err(Unprinted::Refused(r)) => of_refusal(r),
     }
 }
 
@@ -140,11 +140,11 @@ fn of_strict(b: RetractableBoard) -> u64 {
     of_listed(strict::strict_into(b, &mut slots[..0]))
 }
 
-fn of_listed(l: Listed) -> u64 {
+fn of_listed(l: Result<usize, Unlisted>) -> u64 {
     match l {
-        Listed::Count(_) => 0,
-        Listed::Room(_) => of_refusal(Refusal::Room),
-        Listed::Refused(r) => of_refusal(r),
+        Ok(_) => 0,
+        Err(Unlisted::Room(_)) => of_refusal(Refusal::Room),
+        Err(Unlisted::Refused(r)) => of_refusal(r),
     }
 }
 

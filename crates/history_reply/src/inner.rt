@@ -10,7 +10,6 @@ ghost use Rattle.history_reply.specs.Replies.{ply_row, plies_text, history_text,
 use board::RetractableBoard;
 use history::{History, Why};
 use laws::{ChessRetraction, Edition};
-use position_text::Copied;
 use refusal::Refusal;
 
 // A depth as a byte. All above 255 are out of range as it is.
@@ -26,8 +25,8 @@ fn put_ply(out: &mut [u8], len: usize, r: ChessRetraction) -> usize
     ensures { Adds out.old len (ply_row r) result out.new }
 {
     let fields = rows::inner::fields_of(r);
-    let a = output::put_bytes(out, len, &fields).used(len);
-    output::put_bytes(out, a, b"\n").used(a)
+    let a = output::put_bytes(out, len, &fields).unwrap_or(len);
+    output::put_bytes(out, a, b"\n").unwrap_or(a)
 }
 
 // A ply, if there are so many.
@@ -58,8 +57,8 @@ fn put_text(b: RetractableBoard, out: &mut [u8; 196608]) -> usize
 {
     let p = text::inner::print(b, out);
     match p {
-        Copied::Count(n) => output::put_bytes(out, n, b"\n").used(n),
-        Copied::Room(_) => 0,
+        Ok(n) => output::put_bytes(out, n, b"\n").unwrap_or(n),
+        Err(_) => 0,
     }
 }
 
@@ -75,7 +74,7 @@ fn put_history(b: RetractableBoard, depth: u8, told: Result<Option<History>, Why
         }
         Ok(None) => {
             let n = put_text(b, out);
-            output::put_bytes(out, n, b"none\n").used(n)
+            output::put_bytes(out, n, b"none\n").unwrap_or(n)
         }
         Err(why) => reply::inner::put_number(history::number(why), out),
     }

@@ -25,13 +25,12 @@ use Rattle.view.proofs.Seen.{whole}
 use Rattle.board.proofs.Numbers.{gate_refuses, gate_passes}
 use Rattle.retraction_gen.proofs.Filled.{held_is, full_fails, held_passes}
 use Rattle.refusal.specs.Refusals.{Verdict, nothing_refused}
-use Rattle.std.specs.Prelude.{Err, Result, Ok, Option, Some, None}
+use Rattle.std.specs.Prelude.{Err, Result, Ok, Option, Some, None, is_none as gives_none}
 use Rattle.laws.specs.declared.ChessRetraction.{ChessRetraction}
 
 -- the iterator's first answer, as the code reads it
 abbrev by_next : Option ChessRetraction → Result Bool Refusal
-by_next (Some r) = Ok false
-by_next None = Ok true
+by_next x = Ok (gives_none x)
 
 next_by : (x : Option ChessRetraction) → limited_says (by_next x) ≡ cond (is_none (next_says x)) (told (1 ∷ [])) (told (0 ∷ []))
 next_by (Some r) = refl

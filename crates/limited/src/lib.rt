@@ -77,7 +77,7 @@ fn limited_from(t: &[u64; 4096], b: RetractableBoard) -> Result<bool, Refusal>
     requires { IsBetween t.now × Whole (view_on b) }
     ensures { limited_says result ≡ limited_from b }
 {
-    if b.checkers != 0 || names_a_square(b.passant) {
+    if (b.checkers != 0) | names_a_square(b.passant) {
         return Ok(true);
     }
     sides(t, b)

@@ -14,10 +14,11 @@ use Rattle.board.specs.declared.RetractableBoard.{RetractableBoard}
 use Rattle.board.specs.Gate.{board_tests}
 use Rattle.retraction_gen.specs.Making.{list_on, full_test, list_tests}
 use Rattle.retraction_gen.specs.Sequence.{sequence_on}
-use Rattle.slots.specs.declared.Listed.{Listed}
+use Rattle.slots.specs.declared.Unlisted.{Unlisted}
 use Rattle.slots.specs.Slots.{listed_says}
 use Rattle.refusal.proofs.Tested.{behind_more}
 use Rattle.board.proofs.Numbers.{above_seven}
+use Rattle.std.specs.Prelude.{Result}
 
 -- what is said behind 1 to 7: the list fits, or doesn't, and its sequence of n has room, or hasn't
 abbrev said_by : ℕ → Bool → Bool → Said
@@ -37,7 +38,7 @@ room_by n true false room = refl
 room_by n true true false = refl
 room_by n true true true = refl
 
-module _ (b : RetractableBoard) (s after : List ℕ) (r : Listed) (k : Writes (list_tests b) (map packed (sequence_on b)) s (listed_says r) after) where
+module _ (b : RetractableBoard) (s after : List ℕ) (r : Result ℕ Unlisted) (k : Writes (list_tests b) (map packed (sequence_on b)) s (listed_says r) after) where
   abbrev accepted : Bool
   accepted = eqb (first_failing (board_tests b)) 0
 

@@ -18,8 +18,7 @@ use Rattle.retraction_list.specs.Entries.{no_entry, holding, sound}
 use Rattle.retraction_list.specs.inner.Pushing.{answer_of}
 use Rattle.retraction_gen.specs.Making.{list_on, masks_on, full_test, list_tests}
 use Rattle.retraction_gen.specs.Sequence.{sequence_of, sequence_on}
-use Rattle.slots.specs.declared.Listed.{Listed}
-use Rattle.slots.specs.declared.Listed.TheVariants.{Refused as notListed}
+use Rattle.slots.specs.declared.Unlisted.{Unlisted}
 use Rattle.slots.specs.Slots.{listed_says}
 use Rattle.refusal.proofs.Tested.{pass_on, stop_on}
 use Rattle.refusal.proofs.Writing.{writes_behind, writes_refused}
@@ -29,10 +28,11 @@ use Rattle.retraction_gen.proofs.Gated.{list_passed}
 use Rattle.retraction_gen.proofs.Sources.{list_sound}
 use Rattle.listing.specs.inner.Giving.{entries_of, Sound}
 use Rattle.refusal.specs.Refusals.{Verdict, nothing_refused}
-use Rattle.std.specs.Prelude.{Err}
+use Rattle.std.specs.Prelude.{Err, Result}
+use Rattle.slots.specs.declared.Unlisted.TheVariants.{Refused as notListed}
 
 pub gate_told : (b : RetractableBoard) {s : List ℕ} (v : Verdict) → v ≡ gate_of b → (why : Refusal) → v ≡ Err why
-    → Writes (list_tests b) (map packed (sequence_on b)) s (listed_says (notListed why)) s
+    → Writes (list_tests b) (map packed (sequence_on b)) s (listed_says (Err (notListed why))) s
 gate_told b v e why h = writes_refused why (stop_on (board_tests b) (full_test (list_on b)) why (gate_refuses b v e why h))
 
 held_entries : (es : List SourceAndTargets) → entries_of (holding es) ≡ es
@@ -48,7 +48,7 @@ module _ (b : RetractableBoard) (l : RetractionList) (g : gate_of b ≡ nothing_
   on : first_failing (full_test (list_on b)) ≡ first_failing (list_tests b)
   on = pass_on (board_tests b) (full_test (list_on b)) (gate_passes b (gate_of b) refl g)
 
-  pub full_told : (s : List ℕ) → l.full ≡ true → Writes (list_tests b) (map packed (sequence_on b)) s (listed_says (notListed Full)) s
+  pub full_told : (s : List ℕ) → l.full ≡ true → Writes (list_tests b) (map packed (sequence_on b)) s (listed_says (Err (notListed Full))) s
   full_told s f = writes_refused Full (full_fails (list_on b) l e f ∙ on)
 
   module _ (f : l.full ≡ false) where
@@ -61,7 +61,7 @@ module _ (b : RetractableBoard) (l : RetractionList) (g : gate_of b ≡ nothing_
     pub list_ready : Sound l
     list_ready = subst Sound (sym held) (held_sound (list_on b) (list_passed b passed).1 (list_sound b))
 
-    pub told : (ms s after : List ℕ) (r : Listed) → ms ≡ masks_on b → Writes [] (map packed (sequence_of ms (entries_of l))) s (listed_says r) after
+    pub told : (ms s after : List ℕ) (r : Result ℕ Unlisted) → ms ≡ masks_on b → Writes [] (map packed (sequence_of ms (entries_of l))) s (listed_says r) after
         → Writes (list_tests b) (map packed (sequence_on b)) s (listed_says r) after
     unfolding sequence_on
     told ms s after r m x = writes_behind passed (rw (m, ap entries_of held ∙ held_entries (list_on b)) at x)

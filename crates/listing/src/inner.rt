@@ -15,7 +15,7 @@ use board::RetractableBoard;
 use laws::ChessRetraction;
 use refusal::Refusal;
 use retraction_list::{RetractionList, SourceAndTargets, UnCaptureKind};
-use slots::Listed;
+use slots::Unlisted;
 
 // 1 where the mask has the square, else 0.
 fn at(mask: u64, k: u8) -> u64
@@ -128,39 +128,39 @@ fn fill(masks: &[u64; 6], list: RetractionList, slots: &mut [u16])
 }
 
 // Nothing is written before the room is known.
-fn list_from(masks: &[u64; 6], list: RetractionList, slots: &mut [u16]) -> Listed
+fn list_from(masks: &[u64; 6], list: RetractionList, slots: &mut [u16]) -> Result<usize, Unlisted>
     requires { Sound list }
     ensures { Writes [] (map packed (sequence_of masks.now (entries_of list))) slots.old (listed_says result) slots.new }
 {
     let n = count(masks, list);
     if n > slots.len() {
-        return Listed::Room(n);
+        return Err(Unlisted::Room(n));
     }
     fill(masks, list, slots);
-    Listed::Count(n)
+    Ok(n)
 }
 
 // Refusal 8, then 13.
-pub fn list(t: &[u64; 4096], b: RetractableBoard, slots: &mut [u16]) -> Listed
+pub fn list(t: &[u64; 4096], b: RetractableBoard, slots: &mut [u16]) -> Result<usize, Unlisted>
     requires { IsBetween t.now × (gate_of b ≡ nothing_refused) }
     ensures { Writes (list_tests b) (map packed (sequence_on b)) slots.old (listed_says result) slots.new }
 {
     let list = retraction_gen::inner::entries(t, b);
     if list.full {
-        return Listed::Refused(Refusal::Full);
+        return Err(Unlisted::Refused(Refusal::Full));
     }
     let masks = uncaptured::inner::candidates(board::inner::position_of(b));
     list_from(&masks, list, slots)
 }
 
 // `retractions_into`: refusals 1 to 7, 8, then 13.
-pub fn retractions_into(t: &[u64; 4096], b: RetractableBoard, slots: &mut [u16]) -> Listed
+pub fn retractions_into(t: &[u64; 4096], b: RetractableBoard, slots: &mut [u16]) -> Result<usize, Unlisted>
     requires { IsBetween t.now }
     ensures { Writes (list_tests b) (map packed (sequence_on b)) slots.old (listed_says result) slots.new }
 {
     let v = board::inner::gate(t, b);
     match v {
-        Err(why) => Listed::Refused(why),
+        Err(why) => Err(Unlisted::Refused(why)),
         Ok(()) => list(t, b, slots),
     }
 }

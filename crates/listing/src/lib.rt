@@ -9,12 +9,12 @@ ghost use Rattle.retraction_gen.specs.Sequence.{sequence_on};
 ghost use Rattle.slots.specs.Slots.{listed_says};
 
 use board::RetractableBoard;
-use slots::Listed;
+use slots::Unlisted;
 
 pub mod inner; // inner.rt: the same over a lent table, and the sequence of an accepted board, counted and written
 
 // The retractions of a board in the iterator's order: refusals 1 to 7, 8, then 13.
-pub fn retractions_into(b: RetractableBoard, slots: &mut [u16]) -> Listed
+pub fn retractions_into(b: RetractableBoard, slots: &mut [u16]) -> Result<usize, Unlisted>
     ensures { Writes (list_tests b) (map packed (sequence_on b)) slots.old (listed_says result) slots.new }
 {
     let t = tables::between_table();

@@ -10,31 +10,30 @@ use lib.ListN.{length, take}
 use lib.Seq.{paste, take-paste, take-length, length-paste}
 use borrow.Author.Tests.{le-leb, leb-true, leb-false}
 use Rattle.io.specs.Digits.{last_digits, IsDigitCount}
-use Rattle.output.specs.declared.Put.{Put}
-use Rattle.output.specs.declared.Put.TheVariants.{Count, Room}
 use Rattle.output.specs.Appending.{put_says, put_of, used_of, added_out, Puts, PutsDecimal, Adds}
+use Rattle.std.specs.Prelude.{Ok, Err, Result}
 
 -- bytes that have room behind the first `len` are put, others are not
 module _ (o b : List ℕ) (len : ℕ) where
-  pub puts : leb (len + length b) (length o) ≡ true → (x : List ℕ) → x ≡ paste o len b (length b) → Puts o len b (Count (len + length b)) x
+  pub puts : leb (len + length b) (length o) ≡ true → (x : List ℕ) → x ≡ paste o len b (length b) → Puts o len b (Ok (len + length b)) x
   puts k x e = record { says = rw k; holds = e ∙ rw k }
 
-  pub puts_none : leb (len + length b) (length o) ≡ false → (n : ℕ) → n ≡ min (length b) 18446744073709551615 → Puts o len b (Room n) o
+  pub puts_none : leb (len + length b) (length o) ≡ false → (n : ℕ) → n ≡ min (length b) 18446744073709551615 → Puts o len b (Err n) o
   puts_none k n e = record { says = rw (k, e); holds = rw k }
 
   pub adds : len + length b ≤ length o → (x : List ℕ) → x ≡ paste o len b (length b) → Adds o len b (len + length b) x
   adds h x e = let k = le-leb (len + length b) (length o) h in record { used = rw k; holds = e ∙ rw k }
 
 -- how many bytes are then in use
-module _ (o b after : List ℕ) (len : ℕ) (r : Put) (p : Puts o len b r after) where
+module _ (o b after : List ℕ) (len : ℕ) (r : Result ℕ ℕ) (p : Puts o len b r after) where
   pub used_adds : (u : ℕ) → u ≡ used_of r len → Adds o len b u after
   used_adds u e = record { used = e ∙ by r (leb (len + length b) (length o)) _ _ p.says; holds = p.holds }
     where
-      by : (r : Put) (t : Bool) (m k : ℕ) → put_says r ≡ cond t (0, m) (13, k) → used_of r len ≡ cond t m len
-      by (Count n) true m k e = ap (λ (x : ℕ × ℕ). x.1) e
-      by (Room n) false m k e = refl
-      by (Count n) false m k e = absurd (omega (arith, ap (λ (x : ℕ × ℕ). x.0) e))
-      by (Room n) true m k e = absurd (omega (arith, ap (λ (x : ℕ × ℕ). x.0) e))
+      by : (r : Result ℕ ℕ) (t : Bool) (m k : ℕ) → put_says r ≡ cond t (0, m) (13, k) → used_of r len ≡ cond t m len
+      by (Ok n) true m k e = ap (λ (x : ℕ × ℕ). x.1) e
+      by (Err n) false m k e = refl
+      by (Ok n) false m k e = absurd (omega (arith, ap (λ (x : ℕ × ℕ). x.0) e))
+      by (Err n) true m k e = absurd (omega (arith, ap (λ (x : ℕ × ℕ). x.0) e))
 
 -- bytes that were added with room
 module _ (o b after : List ℕ) (len r : ℕ) (a : Adds o len b r after) (h : len + length b ≤ length o) where
@@ -54,9 +53,9 @@ module _ (o b after : List ℕ) (len r : ℕ) (a : Adds o len b r after) (h : le
   pub added_length : length after ≡ length o
   added_length = ap length added_out_lem ∙ length-paste o len b (length b) h (le_refl (length b))
 
-  pub added_puts : Puts o len b (Count r) after
+  pub added_puts : Puts o len b (Ok r) after
   added_puts =
-      subst (λ (n : ℕ). Puts o len b (Count n) after) (sym added_len_lem) (puts o b len room after added_out_lem)
+      subst (λ (n : ℕ). Puts o len b (Ok n) after) (sym added_len_lem) (puts o b len room after added_out_lem)
 
 -- a number has one fewest count of digits, so that its decimal digits are put in one way
 pub fewest_one : (b x i j : ℕ) → 1 < b → IsDigitCount b 1 x i → IsDigitCount b 1 x j → i ≡ j
@@ -74,18 +73,18 @@ fewest_one b x i j h p q = le_antisymm (below p q) (below q p)
             absurd (omega (arith, q.1))
 
 -- two answers that say the same are one
-pub said_one : (r s : Put) → put_says r ≡ put_says s → r ≡ s
-said_one (Count n) (Count m) e = ap Count (ap (λ (x : ℕ × ℕ). x.1) e)
-said_one (Room n) (Room m) e = ap Room (ap (λ (x : ℕ × ℕ). x.1) e)
-said_one (Count n) (Room m) e = absurd (omega (arith, ap (λ (x : ℕ × ℕ). x.0) e))
-said_one (Room n) (Count m) e = absurd (omega (arith, ap (λ (x : ℕ × ℕ). x.0) e))
+pub said_one : (r s : Result ℕ ℕ) → put_says r ≡ put_says s → r ≡ s
+said_one (Ok n) (Ok m) e = ap Ok (ap (λ (x : ℕ × ℕ). x.1) e)
+said_one (Err n) (Err m) e = ap Err (ap (λ (x : ℕ × ℕ). x.1) e)
+said_one (Ok n) (Err m) e = absurd (omega (arith, ap (λ (x : ℕ × ℕ). x.0) e))
+said_one (Err n) (Ok m) e = absurd (omega (arith, ap (λ (x : ℕ × ℕ). x.0) e))
 
 -- bytes are put in one way
-pub put_one : (o : List ℕ) (len : ℕ) (b d : List ℕ) (r s : Put) (x y : List ℕ) → b ≡ d → Puts o len b r x → Puts o len d s y → (r ≡ s) × (x ≡ y)
+pub put_one : (o : List ℕ) (len : ℕ) (b d : List ℕ) (r s : Result ℕ ℕ) (x y : List ℕ) → b ≡ d → Puts o len b r x → Puts o len d s y → (r ≡ s) × (x ≡ y)
 put_one o len b d r s x y e p q =
     (said_one r s (p.says ∙ ap (put_of o len) e ∙ sym q.says), p.holds ∙ ap (added_out o len) e ∙ sym q.holds)
 
-pub decimal_one : (o : List ℕ) (len x : ℕ) (r s : Put) (a b : List ℕ) → PutsDecimal o len x r a → PutsDecimal o len x s b → (r ≡ s) × (a ≡ b)
+pub decimal_one : (o : List ℕ) (len x : ℕ) (r s : Result ℕ ℕ) (a b : List ℕ) → PutsDecimal o len x r a → PutsDecimal o len x s b → (r ≡ s) × (a ≡ b)
 decimal_one o len x r s a b p q =
     put_one o len (last_digits 10 p.places x) (last_digits 10 q.places x) r s a b
     (ap (λ (k : ℕ). last_digits 10 k x) (fewest_one 10 x p.places q.places (omega arith) p.fewest q.fewest)) p.puts q.puts

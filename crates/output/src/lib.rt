@@ -1,45 +1,25 @@
 // Bytes put behind those of a buffer that are in use, all or none: what programs put their answers together with.
 #![tactic(auto)]
 
-ghost use Rattle.std.specs.Prelude.{◌≡◌};
 ghost use Rattle.io.specs.Digits.{last_digits};
-ghost use Rattle.output.specs.Appending.{used_of, Puts, PutsDecimal};
+ghost use Rattle.output.specs.Appending.{Puts, PutsDecimal};
 
 pub mod inner; // inner.rt: the test for room, and a copy into a buffer
 
-// What putting bytes into a buffer answers: how many of its bytes are then in use, or, where it has no room for them, how many it needs.
-#[derive(Drop)]
-pub enum Put {
-    Count(usize),
-    Room(usize),
-}
-
-impl Put {
-    // How many bytes are in use then: `len`, as before, where there was no room.
-    pub fn used(self, len: usize) -> usize
-        ensures { result ≡ used_of self len }
-    {
-        match self {
-            Put::Count(n) => n,
-            Put::Room(_) => len,
-        }
-    }
-}
-
-// Bytes behind the first `len` of a buffer, all or none.
-pub fn put_bytes(out: &mut [u8], len: usize, bytes: &[u8]) -> Put
+// Bytes behind the first `len` of a buffer, all or none: how many of its bytes are then in use, or, where it has no room for them, how many it needs.
+pub fn put_bytes(out: &mut [u8], len: usize, bytes: &[u8]) -> Result<usize, usize>
     ensures { Puts out.old len bytes.now result out.new }
 {
     let n = bytes.len();
     if !inner::has_room(out.len(), len, n) {
-        return Put::Room(n);
+        return Err(n);
     }
     inner::copy(out, len, bytes, 0, n);
-    Put::Count(len + n)
+    Ok(len + n)
 }
 
 // The sixteen hexadecimal digits of a number.
-pub fn put_hex16(out: &mut [u8], len: usize, x: u64) -> Put
+pub fn put_hex16(out: &mut [u8], len: usize, x: u64) -> Result<usize, usize>
     ensures { Puts out.old len (last_digits 16 16 x) result out.new }
 {
     let mut text = [0u8; 16];
@@ -48,7 +28,7 @@ pub fn put_hex16(out: &mut [u8], len: usize, x: u64) -> Put
 }
 
 // The decimal digits of a number.
-pub fn put_decimal(out: &mut [u8], len: usize, x: u64) -> Put
+pub fn put_decimal(out: &mut [u8], len: usize, x: u64) -> Result<usize, usize>
     ensures { PutsDecimal out.old len x result out.new }
 {
     let mut text = [0u8; 20];

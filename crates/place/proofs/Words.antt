@@ -1,11 +1,10 @@
--- The words of a place as the code reads them one by one.
+-- The words of a place, by what stands at each index.
 use mathlib.Core.Path.{◌≡◌, refl, sym, ap, ◌∙◌}
 use mathlib.Core.List.{List}
 use Prim.Native.Nat.{ℕ, zero, suc, ◌+◌, ◌<◌}
 use native.Mathlib.Omega.{arith}
-use lib.ListN.{length, get_or, set}
-use lib.Seq.{ext_get_or, get_or-set_same, get_or-set_other}
-use borrow.Author.Count.{below_more}
+use lib.ListN.{length, get_or}
+use lib.Seq.{ext_get_or}
 use Rattle.place.specs.Words.{words_at}
 
 words_get : (s : List ℕ) (k n i : ℕ) → i < n → get_or (words_at s k n) i 0 ≡ get_or s (k + i) 0
@@ -19,8 +18,3 @@ words_count s k (suc n) = ap suc (words_count s (suc k) n)
 
 pub words_are : (s w : List ℕ) (k n : ℕ) → length w ≡ n → ((j : ℕ) → j < n → get_or w j 0 ≡ get_or s (k + j) 0) → w ≡ words_at s k n
 words_are s w k n l h = ext_get_or 0 w (words_at s k n) (l ∙ sym (words_count s k n)) (λ i u. h i (omega arith) ∙ sym (words_get s k n i (omega arith)))
-
--- one word more
-pub words_more : (s w : List ℕ) (k i : ℕ) → i < length w → ((j : ℕ) → j < i → get_or w j 0 ≡ get_or s (k + j) 0)
-    → (j : ℕ) → j < i + 1 → get_or (set w i (get_or s (k + i) 0)) j 0 ≡ get_or s (k + j) 0
-words_more s w k i l h = below_more _ i (λ j u. get_or-set_other w i j (get_or s (k + i) 0) 0 (λ e. omega arith) ∙ h j u) (get_or-set_same w i (get_or s (k + i) 0) 0 l)

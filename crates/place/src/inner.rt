@@ -142,11 +142,7 @@ pub fn words_at(table: &[u64], k: usize) -> [u64; WORDS]
     ensures { result ≡ words_at table.now k place_words }
 {
     let mut w = [0u64; WORDS];
-    let mut i: usize = 0;
-    while i < WORDS {
-        w[i] = table[k + i];
-        i += 1;
-    }
+    w.copy_from_slice(&table[k..k + WORDS]);
     w
 }
 
@@ -155,9 +151,5 @@ pub fn store(table: &mut [u64], k: usize, w: [u64; WORDS])
     requires { (k + place_words ≤ length table.old) × (length w ≡ place_words) }
     ensures { table.new ≡ paste table.old k w place_words }
 {
-    let mut i: usize = 0;
-    while i < WORDS {
-        table[k + i] = w[i];
-        i += 1;
-    }
+    table[k..k + WORDS].copy_from_slice(&w);
 }

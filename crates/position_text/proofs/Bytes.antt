@@ -9,9 +9,9 @@ use lib.ListN.{length, take, drop}
 use lib.Seq.{length-take-le}
 use borrow.Author.Tests.{lt-ltb, le-ltb, ltb-false}
 use Rattle.refusal.specs.Said.{Writes}
-use Rattle.position_text.specs.declared.Copied.TheVariants.{Count, Room}
 use Rattle.position_text.specs.inner.Copies.{copied_says, SameAs}
 use Rattle.refusal.proofs.Writing.{writes_roomless, writes_whole}
+use Rattle.std.specs.Prelude.{Err, Ok}
 
 -- n bytes of b, which o has no room for, or has
 module _ (b o : List ℕ) (n w : ℕ) (fit : n ≤ length b) (said : w ≡ cond (ltb (length o) n) 0 n) where
@@ -26,14 +26,14 @@ module _ (b o : List ℕ) (n w : ℕ) (fit : n ≤ length b) (said : w ≡ cond 
       go true e = let z : w ≡ 0 = (rw e at said) in (omega arith, omega arith)
       go false e = let z : w ≡ n = (rw e at said) in (omega arith, omega (arith, ltb-false (length o) n e))
 
-  pub room : {x : List ℕ} → length o < n → x ≡ take w b ++ drop w o → Writes [] (take n b) o (copied_says (Room n)) x
+  pub room : {x : List ℕ} → length o < n → x ≡ take w b ++ drop w o → Writes [] (take n b) o (copied_says (Err n)) x
   room h e =
       let k : ltb (length o) n ≡ true = lt-ltb (length o) n h in
       let z : w ≡ 0 = (rw k at said) in
       let d : _ ≡ o = e ∙ simp z in
       rw d (writes_roomless n (sym long) h)
 
-  pub all : {x : List ℕ} → n ≤ length o → x ≡ take w b ++ drop w o → Writes [] (take n b) o (copied_says (Count n)) x
+  pub all : {x : List ℕ} → n ≤ length o → x ≡ take w b ++ drop w o → Writes [] (take n b) o (copied_says (Ok n)) x
   all h e =
       let k : ltb (length o) n ≡ false = le-ltb (length o) n h in
       let z : w ≡ n = (rw k at said) in

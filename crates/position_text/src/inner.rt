@@ -6,7 +6,7 @@ ghost use Rattle.position_text.specs.Form.{turn_byte, side_text, rights_text, st
 ghost use Rattle.position_text.specs.inner.Copies.{copied_says, SameAs};
 ghost use Rattle.position_text.specs.inner.Reading.{right_of, square_of, step_men, step_tail, step_of, start_of, run_of, turn_of, side_of, flag_of, raw_of, no_raw};
 
-use super::{Copied, Form, Line, Raw, Scan};
+use super::{Form, Line, Raw, Scan};
 use geometry::Color;
 use laws::{CastleRights, Edition, EnPassantFlag, Position};
 use men_field::inner::push;
@@ -105,7 +105,7 @@ fn written(have: usize, n: usize) -> usize
 }
 
 // A line into a lent slice, whole or not at all.
-pub fn copy(line: Line, out: &mut [u8]) -> Copied
+pub fn copy(line: Line, out: &mut [u8]) -> Result<usize, usize>
     requires { line.len ≤ 81 }
     ensures { Writes [] (text_of line) out.old (copied_says result) out.new }
 {
@@ -115,9 +115,9 @@ pub fn copy(line: Line, out: &mut [u8]) -> Copied
     let w = written(have, n);
     fill(bytes, w, out);
     if have < n {
-        return Copied::Room(n);
+        return Err(n);
     }
-    Copied::Count(n)
+    Ok(n)
 }
 
 pub fn same(l: Line, t: &[u8]) -> bool

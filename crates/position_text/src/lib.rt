@@ -21,13 +21,6 @@ pub struct Raw {
     pub position: Position,
 }
 
-// A line copied into a lent slice: how many bytes were written, or are needed.
-#[derive(Drop)]
-pub enum Copied {
-    Count(usize),
-    Room(usize),
-}
-
 // What is read so far, leniently: a text out of form gives something too.
 #[derive(Clone, Copy)]
 pub struct Scan {

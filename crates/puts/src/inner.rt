@@ -7,7 +7,7 @@ use refusal::Refusal;
 pub fn bytes(out: &mut [u8; 65536], len: usize, text: &[u8]) -> usize
     ensures { Grows len result }
 {
-    output::put_bytes(out, len, text).used(len)
+    output::put_bytes(out, len, text).unwrap_or(len)
 }
 
 // The first n bytes of a text, none where it has fewer.
@@ -23,14 +23,14 @@ pub fn front(out: &mut [u8; 65536], len: usize, text: &[u8], n: usize) -> usize
 pub fn number(out: &mut [u8; 65536], len: usize, x: u64) -> usize
     ensures { Grows len result }
 {
-    output::put_decimal(out, len, x).used(len)
+    output::put_decimal(out, len, x).unwrap_or(len)
 }
 
 // Sixteen hexadecimal digits.
 pub fn set(out: &mut [u8; 65536], len: usize, x: u64) -> usize
     ensures { Grows len result }
 {
-    output::put_hex16(out, len, x).used(len)
+    output::put_hex16(out, len, x).unwrap_or(len)
 }
 
 pub fn next_number(out: &mut [u8; 65536], len: usize, x: u64) -> usize

@@ -3,7 +3,7 @@ ghost use Rattle.reply.specs.Replies.{Shows};
 ghost use Rattle.record_reply.specs.Answers.{state_number, record_text};
 
 use board::RetractableBoard;
-use records::Written;
+use records::Unwritten;
 
 // The record and a newline, or 16 where the state is unknown.
 pub fn put_record(b: RetractableBoard, half: u16, full: u16, out: &mut [u8; 196608]) -> usize
@@ -11,8 +11,8 @@ pub fn put_record(b: RetractableBoard, half: u16, full: u16, out: &mut [u8; 1966
 {
     let w = records::inner::write(b, half, full, out);
     match w {
-        Written::Count(n) => output::put_bytes(out, n, b"\n").used(n),
-        Written::Room(_) => 0,
-        Written::Refused(why) => reply::inner::put_number(records::number(why), out),
+        Ok(n) => output::put_bytes(out, n, b"\n").unwrap_or(n),
+        Err(Unwritten::Room(_)) => 0,
+        Err(Unwritten::Refused(why)) => reply::inner::put_number(records::number(why), out),
     }
 }

@@ -14,8 +14,8 @@ pub fn put_edition(edition: Edition, out: &mut [u8; 196608]) -> usize
     ensures { Shows (edition_text edition) result out.old out.new }
 {
     match edition {
-        Edition::A => output::put_bytes(out, 0, b"edition A\n").used(0),
-        Edition::B => output::put_bytes(out, 0, b"edition B\n").used(0),
+        Edition::A => output::put_bytes(out, 0, b"edition A\n").unwrap_or(0),
+        Edition::B => output::put_bytes(out, 0, b"edition B\n").unwrap_or(0),
     }
 }
 

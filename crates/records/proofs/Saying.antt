@@ -14,25 +14,27 @@ use Rattle.board.specs.declared.RetractableBoard.{RetractableBoard}
 use Rattle.board.specs.Gate.{board_tests}
 use Rattle.board.proofs.Numbers.{above_seven}
 use Rattle.record_fields.specs.Passed.{is_known}
-use Rattle.records.specs.declared.Written.{Written}
-use Rattle.records.specs.declared.Written.TheVariants.{Count, Room, Refused}
+use Rattle.records.specs.declared.Unwritten.{Unwritten}
 use Rattle.records.specs.Entries.{record_on, written_says, WritesRecord}
 use Rattle.records.proofs.Giving.{why_one}
+use Rattle.records.specs.declared.Why.{Why}
+use Rattle.std.specs.Prelude.{Err, Ok, Result}
+use Rattle.records.specs.declared.Unwritten.TheVariants.{Room, Refused}
 
 -- what is said settles the answer
-written_one : (r q : Written) → written_says r ≡ written_says q → r ≡ q
-written_one (Count m) (Count n) e = cc
-written_one (Count m) (Room n) e = no_room e
-written_one (Count m) (Refused w) e = no_value e
-written_one (Room m) (Count n) e = no_room (sym e)
-written_one (Room m) (Room n) e = cc
-written_one (Room m) (Refused w) e = no_value e
-written_one (Refused v) (Count n) e = no_value (sym e)
-written_one (Refused v) (Room n) e = no_value (sym e)
-written_one (Refused v) (Refused w) e = ap Refused (why_one v w (ap number_said e))
+written_one : (r q : Result ℕ Unwritten) → written_says r ≡ written_says q → r ≡ q
+written_one (Ok m) (Ok n) e = cc
+written_one (Ok m) (Err (Room n)) e = no_room e
+written_one (Ok m) (Err (Refused w)) e = no_value e
+written_one (Err (Room m)) (Ok n) e = no_room (sym e)
+written_one (Err (Room m)) (Err (Room n)) e = cc
+written_one (Err (Room m)) (Err (Refused w)) e = no_value e
+written_one (Err (Refused v)) (Ok n) e = no_value (sym e)
+written_one (Err (Refused v)) (Err (Room n)) e = no_value (sym e)
+written_one (Err (Refused v)) (Err (Refused w)) e = ap (λ (z : Why). Err (Refused z)) (why_one v w (ap number_said e))
 
 -- any two answers, and any two contents of the slice, agree
-pub one_written : {ts : List Test} {e : EnPassantFlag} {t o : List ℕ} (r q : Written) (u v : List ℕ) → WritesRecord ts e t o (written_says r) u
+pub one_written : {ts : List Test} {e : EnPassantFlag} {t o : List ℕ} (r q : Result ℕ Unwritten) (u v : List ℕ) → WritesRecord ts e t o (written_says r) u
     → WritesRecord ts e t o (written_says q) v → (r ≡ q) × (u ≡ v)
 one_written {t = t} {o = o} r q u v k l =
     let s = k.answer ∙ sym l.answer in
@@ -56,7 +58,7 @@ writes_known {ts} {e} {t} {o} n after w = go (is_known e) refl w.answer
     go false q k = no_told ts 16 n k
 
 -- behind 1 to 7 of a board
-module _ (b : RetractableBoard) (h n : ℕ) (o after : List ℕ) (r : Written) (w : WritesRecord (board_tests b) b.passant (record_on b h n) o (written_says r) after) where
+module _ (b : RetractableBoard) (h n : ℕ) (o after : List ℕ) (r : Result ℕ Unwritten) (w : WritesRecord (board_tests b) b.passant (record_on b h n) o (written_says r) after) where
   abbrev size : ℕ
   size = length (record_on b h n)
 

@@ -23,8 +23,6 @@ use Rattle.board.specs.Gate.{gate_of, board_tests}
 use Rattle.board.proofs.Numbers.{gate_refuses, gate_passes}
 use Rattle.position_text.specs.Form.{printed}
 use Rattle.position_text.proofs.Tails.{print_short}
-use Rattle.output.specs.declared.Put.{Put}
-use Rattle.output.specs.declared.Put.TheVariants.{Count, Room}
 use Rattle.output.specs.Appending.{put_says, used_of, Puts, PutsDecimal, Adds}
 use Rattle.output.proofs.Added.{added_len_lem, added_bytes, added_length}
 use Rattle.rows.specs.Rows.{decimal_of}
@@ -33,11 +31,11 @@ use Rattle.rows.proofs.Decimals.{decimal_added}
 use Rattle.record_fields.specs.Passed.{passed_state, is_known}
 use Rattle.record_fields.proofs.Counters.{five_long}
 use Rattle.records.specs.declared.Why.TheVariants.{Base, Unknown}
-use Rattle.records.specs.declared.Written.TheVariants.{Count as count, Room as room, Refused as notWritten}
 use Rattle.records.specs.Form.{counters_text, record_of}
 use Rattle.records.specs.Entries.{why_number, record_on, written_says, WritesRecord}
 use Rattle.records.specs.inner.Answering.{passed_fields}
-use Rattle.std.specs.Prelude.{Err}
+use Rattle.std.specs.Prelude.{Err, Ok, Result}
+use Rattle.records.specs.declared.Unwritten.TheVariants.{Room as room, Refused as notWritten}
 
 -- the fields have at most 81 bytes and, as any counter has at most five digits, a record at most 93
 fields_short : (f : Position) → length (printed (passed_fields f)) ≤ 81
@@ -48,7 +46,7 @@ record_length f h n =
     omega (arith, fields_short f, length-append (printed (passed_fields f)) (counters_text h n), length-append (decimal_of h) (32 ∷ decimal_of n))
 
 -- a buffer of 96, into which the fields and the counters were put
-module _ (f : Position) (h n : ℕ) (o o₁ o₂ o₃ o₄ o₅ : List ℕ) (a b c d e : ℕ) (r s : Put) (l : length o ≡ 96) (hs : h < 65536) (ns : n < 65536)
+module _ (f : Position) (h n : ℕ) (o o₁ o₂ o₃ o₄ o₅ : List ℕ) (a b c d e : ℕ) (r s : Result ℕ ℕ) (l : length o ≡ 96) (hs : h < 65536) (ns : n < 65536)
     (p₁ : Adds o 0 (printed (passed_fields f)) a o₁) (p₂ : Adds o₁ a (32 ∷ []) b o₂) (p₃ : PutsDecimal o₂ b h r o₃) (u₃ : c ≡ used_of r b)
     (p₄ : Adds o₃ c (32 ∷ []) d o₄) (p₅ : PutsDecimal o₄ d n s o₅) (u₅ : e ≡ used_of s d) where
   abbrev four : List ℕ
@@ -83,7 +81,7 @@ module _ (f : Position) (h n : ℕ) (o o₁ o₂ o₃ o₄ o₅ : List ℕ) (a b
       ((w, sym (length-take-le e o₅ w)), added_bytes o (record_of f h n) o₅ 0 e whole k)
 
 -- bytes put to the front of a slice, as `Writes` says it
-module _ (f : Position) (h n : ℕ) (o t after : List ℕ) (r : Put) (hs : h < 65536) (ns : n < 65536) (is : t ≡ record_of f h n) (p : Puts o 0 t r after) where
+module _ (f : Position) (h n : ℕ) (o t after : List ℕ) (r : Result ℕ ℕ) (hs : h < 65536) (ns : n < 65536) (is : t ≡ record_of f h n) (p : Puts o 0 t r after) where
   abbrev all_of : List ℕ
   all_of = record_of f h n
 
@@ -102,7 +100,7 @@ module _ (f : Position) (h n : ℕ) (o t after : List ℕ) (r : Put) (hs : h < 6
   front : paste o 0 all_of (length all_of) ≡ all_of ++ drop (length all_of) o
   front = ap₂ (λ (x : List ℕ) (k : ℕ). x ++ drop k o) (take-length all_of) (zero-add (length all_of))
 
-  pub put_count : (k : ℕ) → r ≡ Count k → Writes [] all_of o (written_says (count k)) after
+  pub put_count : (k : ℕ) → r ≡ Ok k → Writes [] all_of o (written_says (Ok k)) after
   put_count k e = go (leb (0 + length all_of) (length o)) refl (sym (ap put_says e) ∙ puts.says) puts.holds
     where
       go : (x : Bool) → leb (0 + length all_of) (length o) ≡ x → (0, k) ≡ said_of x → after ≡ left_of x → Writes [] all_of o (told (k ∷ [])) after
@@ -111,7 +109,7 @@ module _ (f : Position) (h n : ℕ) (o t after : List ℕ) (r : Put) (hs : h < 6
           writes_whole k (z ∙ zero-add (length all_of)) (omega (arith, leb-true (0 + length all_of) (length o) q)) (v ∙ front)
       go false q u v = absurd (omega (arith, ap (λ (x : ℕ × ℕ). x.0) u))
 
-  pub put_room : (k : ℕ) → r ≡ Room k → Writes [] all_of o (written_says (room k)) after
+  pub put_room : (k : ℕ) → r ≡ Err k → Writes [] all_of o (written_says (Err (room k))) after
   put_room k e = go (leb (0 + length all_of) (length o)) refl (sym (ap put_says e) ∙ puts.says) puts.holds
     where
       go : (x : Bool) → leb (0 + length all_of) (length o) ≡ x → (13, k) ≡ said_of x → after ≡ left_of x → Writes [] all_of o (says 13 (k ∷ [])) after
@@ -131,11 +129,11 @@ module _ (e : EnPassantFlag) (t o : List ℕ) where
         holds = w.holds;
       }
 
-  pub unknown_writes : is_known e ≡ false → WritesRecord [] e t o (written_says (notWritten Unknown)) o
+  pub unknown_writes : is_known e ≡ false → WritesRecord [] e t o (written_says (Err (notWritten Unknown))) o
   unfolding behind first_failing
   unknown_writes k = record { answer = rw k; holds = refl }
 
-  refused_writes : (ts : List Test) (why : Refusal) → number_of why ≡ first_failing ts → WritesRecord ts e t o (written_says (notWritten (Base why))) o
+  refused_writes : (ts : List Test) (why : Refusal) → number_of why ≡ first_failing ts → WritesRecord ts e t o (written_says (Err (notWritten (Base why)))) o
   refused_writes ts why h = record {
     answer = behind_by (Err why) ts (cond (is_known e) (fitting (length t) (length o)) (says (why_number Unknown) [])) h;
     holds = rw (some_number why);
@@ -147,7 +145,7 @@ module _ (e : EnPassantFlag) (t o : List ℕ) where
 
 -- behind the gate
 module _ (b : RetractableBoard) (h n : ℕ) (o : List ℕ) (v : Verdict) (e : v ≡ gate_of b) where
-  pub not_written : (why : Refusal) → v ≡ Err why → WritesRecord (board_tests b) b.passant (record_on b h n) o (written_says (notWritten (Base why))) o
+  pub not_written : (why : Refusal) → v ≡ Err why → WritesRecord (board_tests b) b.passant (record_on b h n) o (written_says (Err (notWritten (Base why)))) o
   not_written why k = refused_writes b.passant (record_on b h n) o (board_tests b) why (gate_refuses b v e why k)
 
   pub written_so : (x : Said) (after : List ℕ) → v ≡ nothing_refused → WritesRecord [] b.passant (record_on b h n) o x after

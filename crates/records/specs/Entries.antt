@@ -1,5 +1,5 @@
 -- What the two entries answer, by the documents' numbers: a record into a board and its counters, and back.
-use Rattle.std.specs.Prelude.{◌≡◌, cond, List, [], ◌∷◌, ◌++◌, ℕ, eqb, length, drop}
+use Rattle.std.specs.Prelude.{◌≡◌, cond, List, [], ◌∷◌, ◌++◌, ℕ, eqb, length, drop, Err, Ok, Result}
 use Rattle.laws.specs.declared.EnPassantFlag.{EnPassantFlag}
 use Rattle.laws.specs.declared.Edition.{Edition}
 use Rattle.laws.specs.declared.Position.{Position}
@@ -17,9 +17,9 @@ use Rattle.records.specs.declared.Why.TheVariants.{Base, Counter, Unknown}
 use Rattle.records.specs.declared.Outcome.{Outcome}
 use Rattle.records.specs.declared.Outcome.TheVariants.{Taken, Refused as notTaken}
 use Rattle.records.specs.declared.Recorded.{Recorded}
-use Rattle.records.specs.declared.Written.{Written}
-use Rattle.records.specs.declared.Written.TheVariants.{Count, Room, Refused as notWritten}
+use Rattle.records.specs.declared.Unwritten.{Unwritten}
 use Rattle.records.specs.Form.{record_of, Says}
+use Rattle.records.specs.declared.Unwritten.TheVariants.{Room, Refused as notWritten}
 
 -- "15 COUNTER .., 16 UNKNOWN", and the numbers of document 01
 abbrev pub why_number : Why → ℕ
@@ -53,10 +53,10 @@ abbrev pub record_on : RetractableBoard → ℕ → ℕ → List ℕ
 record_on b h n = record_of (position_on b) h n
 
 -- how many bytes were written; "ROOM also returns the number of .. bytes needed"; or another refusal
-abbrev pub written_says : Written → Said
-written_says (Count n) = told (n ∷ [])
-written_says (Room n) = says (number_of room) (n ∷ [])
-written_says (notWritten w) = says (why_number w) []
+abbrev pub written_says : Result ℕ Unwritten → Said
+written_says (Ok n) = told (n ∷ [])
+written_says (Err (Room n)) = says (number_of room) (n ∷ [])
+written_says (Err (notWritten w)) = says (why_number w) []
 
 -- "16 UNKNOWN when the writer, after 1 to 7 and before 13, meets an unknown state": the record t of a board whose state is e goes into a lent
 -- slice that holds o, behind the tests ts; x is said, and where its number is 0 the slice then holds t and what stood beyond; "A refusal writes nothing"

@@ -7,10 +7,9 @@ ghost use Rattle.records.specs.Form.{record_of};
 ghost use Rattle.records.specs.Entries.{Reads, record_on, written_says, WritesRecord};
 ghost use Rattle.records.specs.inner.Answering.{with_state, no_record, recorded_by, record_said, known_said, answer_of};
 
-use super::{Outcome, Recorded, Why, Written};
+use super::{Outcome, Recorded, Why, Unwritten};
 use board::{Boarded, RetractableBoard};
 use laws::{Edition, EnPassantFlag, Position};
-use output::Put;
 use position_text::{Form, Raw};
 use record_fields::inner::{count, in_range, is_known, last, passed_state, pawn_state};
 use refusal::Refusal;
@@ -130,33 +129,33 @@ fn put_record(line: &mut [u8; 96], p: Position, half: u16, full: u16) -> usize
     let four = position_text::inner::line_of(with_state(p, passed));
     let bytes = four.bytes;
     let len = four.len;
-    let fields = output::put_bytes(line, 0, &bytes[..len]).used(0);
-    let first = output::put_bytes(line, fields, b" ").used(fields);
-    let second = output::put_decimal(line, first, half as u64).used(first);
-    let third = output::put_bytes(line, second, b" ").used(second);
-    output::put_decimal(line, third, full as u64).used(third)
+    let fields = output::put_bytes(line, 0, &bytes[..len]).unwrap_or(0);
+    let first = output::put_bytes(line, fields, b" ").unwrap_or(fields);
+    let second = output::put_decimal(line, first, half as u64).unwrap_or(first);
+    let third = output::put_bytes(line, second, b" ").unwrap_or(second);
+    output::put_decimal(line, third, full as u64).unwrap_or(third)
 }
 
 // The record of a position's fields into a lent slice, whole or not at all.
-fn put(p: Position, half: u16, full: u16, out: &mut [u8]) -> Written
+fn put(p: Position, half: u16, full: u16, out: &mut [u8]) -> Result<usize, Unwritten>
     ensures { Writes [] (record_of p half full) out.old (written_says result) out.new }
 {
     let mut line = [0u8; 96];
     let n = put_record(&mut line, p, half, full);
     let done = output::put_bytes(out, 0, &line[..n]);
     match done {
-        Put::Count(k) => Written::Count(k),
-        Put::Room(k) => Written::Room(k),
+        Ok(k) => Ok(k),
+        Err(k) => Err(Unwritten::Room(k)),
     }
 }
 
 // The record of any board into a lent slice: refusal 16, then 13.
-pub fn write(b: RetractableBoard, half: u16, full: u16, out: &mut [u8]) -> Written
+pub fn write(b: RetractableBoard, half: u16, full: u16, out: &mut [u8]) -> Result<usize, Unwritten>
     ensures { WritesRecord [] b.passant (record_on b half full) out.old (written_says result) out.new }
 {
     let passant = b.passant;
     if !is_known(passant) {
-        return Written::Refused(Why::Unknown);
+        return Err(Unwritten::Refused(Why::Unknown));
     }
     put(board::inner::position_of(b), half, full, out)
 }

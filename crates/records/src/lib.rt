@@ -35,10 +35,9 @@ pub struct Recorded {
     pub full: u16,
 }
 
-// A record written into a lent slice: how many bytes were written, or are needed, or why it was refused.
+// Why a record is not written into a lent slice: how many bytes are needed, or its refusal.
 #[derive(Drop)]
-pub enum Written {
-    Count(usize),
+pub enum Unwritten {
     Room(usize),
     Refused(Why),
 }
@@ -63,13 +62,13 @@ pub fn read(text: &[u8], edition: Edition) -> Recorded
 }
 
 // A board and its counters as a record, into a lent slice: refusals 1 to 7, then 16, then 13. Only a whole record is written, with any counters.
-pub fn write(b: RetractableBoard, half: u16, full: u16, out: &mut [u8]) -> Written
+pub fn write(b: RetractableBoard, half: u16, full: u16, out: &mut [u8]) -> Result<usize, Unwritten>
     ensures { WritesRecord (board_tests b) b.passant (record_on b half full) out.old (written_says result) out.new }
 {
     let t = tables::between_table();
     let v = board::inner::gate(&t, b);
     match v {
-        Err(r) => Written::Refused(Why::Base(r)),
+        Err(r) => Err(Unwritten::Refused(Why::Base(r))),
         Ok(()) => inner::write(b, half, full, out),
     }
 }

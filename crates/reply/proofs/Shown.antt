@@ -14,7 +14,6 @@ use Rattle.refusal.specs.Said.{Test}
 use Rattle.board.specs.declared.RetractableBoard.{RetractableBoard}
 use Rattle.board.specs.Gate.{men_on, gate_of, board_tests}
 use Rattle.text.specs.Entries.{text_on}
-use Rattle.output.specs.declared.Put.{Put}
 use Rattle.output.specs.Appending.{used_of, PutsDecimal, Adds}
 use Rattle.rows.specs.Rows.{decimal_of, report_of}
 use Rattle.reply.specs.Replies.{word, newline, refused_text, board_text, Shows}
@@ -27,6 +26,7 @@ use Rattle.output.proofs.Added.{adds, added_len_lem, added_out_lem, added_length
 use Rattle.output.proofs.Adding.{adds_then}
 use Rattle.rows.proofs.Decimals.{number_short, decimal_added}
 use Rattle.reply.proofs.Sizes.{report_short}
+use Rattle.std.specs.Prelude.{Result}
 
 -- a copy to the front
 front : (o t : List ℕ) → take 0 o ++ take (length t) t ++ drop (0 + length t) o ≡ t ++ drop (length t) o
@@ -46,7 +46,7 @@ written_added {t = t} {o = o} {out = out} {n = n} w =
     (adds o t 0 (omega (arith, w.fits)) out (w.holds ∙ sym (front o t)))
 
 -- `refused N`
-pub refused_shown : (o o₁ o₂ o₃ : List ℕ) (a d n x : ℕ) (v : Put) → length o ≡ 196608 → x < 2 ^ 64 → Adds o 0 word a o₁ → PutsDecimal o₁ a x v o₂
+pub refused_shown : (o o₁ o₂ o₃ : List ℕ) (a d n x : ℕ) (v : Result ℕ ℕ) → length o ≡ 196608 → x < 2 ^ 64 → Adds o 0 word a o₁ → PutsDecimal o₁ a x v o₂
     → d ≡ used_of v a → Adds o₂ d newline n o₃ → Shows (refused_text x) n o o₃
 refused_shown o o₁ o₂ o₃ a d n x v l f p q u w =
     let s = number_short x f in

@@ -19,8 +19,7 @@ use Rattle.board.specs.Gate.{pos_on, gate_of}
 use Rattle.text.specs.Entries.{Reads}
 use Rattle.retraction_gen.specs.Making.{list_tests}
 use Rattle.retraction_gen.specs.Sequence.{sequence_on}
-use Rattle.slots.specs.declared.Listed.{Listed}
-use Rattle.slots.specs.declared.Listed.TheVariants.{Count, Room, Refused as notListed}
+use Rattle.slots.specs.declared.Unlisted.{Unlisted}
 use Rattle.slots.specs.Slots.{listed_says}
 use Rattle.strict_search.specs.inner.Searching.{strict_moves}
 use Rattle.strict.specs.Demand.{IsStrictList, Lists}
@@ -32,7 +31,8 @@ use Rattle.slots.proofs.Telling.{listing_tells}
 use Rattle.strict.proofs.Unique.{one_list}
 use Rattle.strict.proofs.Told.{demanded}
 use Rattle.reply.proofs.Slots.{roomy, roomless, passed_board, written_is}
-use Rattle.std.specs.Prelude.{Err}
+use Rattle.std.specs.Prelude.{Err, Ok, Result}
+use Rattle.slots.specs.declared.Unlisted.TheVariants.{Room, Refused as notListed}
 
 -- the board is shown with its lists, or refused
 module _ (b : RetractableBoard) (moves : List ChessRetraction) {n : ℕ} {o out q : List ℕ} where
@@ -45,33 +45,33 @@ module _ (b : RetractableBoard) (moves : List ChessRetraction) {n : ℕ} {o out 
   answers_refused z a k e s = record { moves = moves; exact = a; shows = rw (← k, z) s; slots = e ∙ rw (← k, z) }
 
 -- by what the strict list's slots told
-module _ (b : RetractableBoard) (passed : first_failing (listed_tests b) ≡ 0) {q after : List ℕ} (size : length q ≡ 8192) (r : Listed) (x : Lists b q r after) where
+module _ (b : RetractableBoard) (passed : first_failing (listed_tests b) ≡ 0) {q after : List ℕ} (size : length q ≡ 8192) (r : Result ℕ Unlisted) (x : Lists b q r after) where
   exact : IsStrictList b x.moves
   exact = x.exact (passed_board b passed)
 
   module _ {n : ℕ} {o out : List ℕ} where
-    pub strict_shown : (k : ℕ) → r ≡ Count k → (p : List ℕ) → p ≡ map packed (sequence_on b) → Shows (board_text b p (take k after)) n o out
+    pub strict_shown : (k : ℕ) → r ≡ Ok k → (p : List ℕ) → p ≡ map packed (sequence_on b) → Shows (board_text b p (take k after)) n o out
         → AnswersBoard 0 b n o out q after
     strict_shown k e p d s =
-        let w = listing_tells x.moves r x.into (Count k) e in
+        let w = listing_tells x.moves r x.into (Ok k) e in
         answers_shown b x.moves exact (roomy (listed_tests b) x.moves q passed size w.fits) w.holds
         (subst (λ (l : List ℕ). Shows (board_text b l (map packed x.moves)) n o out) d
         (subst (λ (l : List ℕ). Shows (board_text b p l) n o out) (written_is w) s))
 
-    pub strict_roomless : (k : ℕ) → r ≡ Room k → Shows (refused_text (number_of room)) n o out → AnswersBoard 0 b n o out q after
+    pub strict_roomless : (k : ℕ) → r ≡ Err (Room k) → Shows (refused_text (number_of room)) n o out → AnswersBoard 0 b n o out q after
     strict_roomless k e s =
-        let w = listing_tells x.moves r x.into (Room k) e in
+        let w = listing_tells x.moves r x.into (Err (Room k)) e in
         answers_refused b x.moves (some_number room) (λ _. exact) (roomless (listed_tests b) x.moves q passed size w.short) w.holds s
 
 -- by what the ported list's slots told
-module _ (b : RetractableBoard) (g : gate_of b ≡ nothing_refused) {p after : List ℕ} (size : length p ≡ 8192) (r : Listed)
+module _ (b : RetractableBoard) (g : gate_of b ≡ nothing_refused) {p after : List ℕ} (size : length p ≡ 8192) (r : Result ℕ Unlisted)
     (x : Writes (list_tests b) (map packed (sequence_on b)) p (listed_says r) after) where
-  pub listed_passes : (k : ℕ) → r ≡ Count k → first_failing (listed_tests b) ≡ 0
-  listed_passes k e = let w = listing_tells (sequence_on b) r x (Count k) e in roomy (list_tests b) (sequence_on b) p w.passed size w.fits
+  pub listed_passes : (k : ℕ) → r ≡ Ok k → first_failing (listed_tests b) ≡ 0
+  listed_passes k e = let w = listing_tells (sequence_on b) r x (Ok k) e in roomy (list_tests b) (sequence_on b) p w.passed size w.fits
 
   module _ {n : ℕ} {o out q : List ℕ} where
-    pub board_shown : (k : ℕ) → r ≡ Count k → {strict : List ℕ} → AnswersBoard 0 b n o out q strict → AnswersBoard 0 b n o out q strict × (after ≡ listed_then 0 b p)
-    board_shown k e s = (s, (listing_tells (sequence_on b) r x (Count k) e).holds ∙ rw (listed_passes k e))
+    pub board_shown : (k : ℕ) → r ≡ Ok k → {strict : List ℕ} → AnswersBoard 0 b n o out q strict → AnswersBoard 0 b n o out q strict × (after ≡ listed_then 0 b p)
+    board_shown k e s = (s, (listing_tells (sequence_on b) r x (Ok k) e).holds ∙ rw (listed_passes k e))
 
     stopped : (why : Refusal) → number_of why ≡ first_failing (listed_tests b) → after ≡ p → Shows (refused_text (number_of why)) n o out
         → AnswersBoard 0 b n o out q q × (after ≡ listed_then 0 b p)
@@ -79,14 +79,14 @@ module _ (b : RetractableBoard) (g : gate_of b ≡ nothing_refused) {p after : L
         let l = strict_moves (pos_on b) in
         (answers_refused b l (some_number why) (λ _. demanded b g) (stop_on (listed_tests b) (room_test l) why h) refl s, e ∙ rw (← h, some_number why))
 
-    pub board_roomless : (k : ℕ) → r ≡ Room k → Shows (refused_text (number_of room)) n o out → AnswersBoard 0 b n o out q q × (after ≡ listed_then 0 b p)
+    pub board_roomless : (k : ℕ) → r ≡ Err (Room k) → Shows (refused_text (number_of room)) n o out → AnswersBoard 0 b n o out q q × (after ≡ listed_then 0 b p)
     board_roomless k e s =
-        let w = listing_tells (sequence_on b) r x (Room k) e in
+        let w = listing_tells (sequence_on b) r x (Err (Room k)) e in
         stopped room (roomless (list_tests b) (sequence_on b) p w.passed size w.short) w.holds s
 
-    pub board_refused : (why : Refusal) → r ≡ notListed why → Shows (refused_text (number_of why)) n o out → AnswersBoard 0 b n o out q q × (after ≡ listed_then 0 b p)
+    pub board_refused : (why : Refusal) → r ≡ Err (notListed why) → Shows (refused_text (number_of why)) n o out → AnswersBoard 0 b n o out q q × (after ≡ listed_then 0 b p)
     board_refused why e s =
-        let w = listing_tells (sequence_on b) r x (notListed why) e in stopped why (stop_on (list_tests b) (room_test (sequence_on b)) why w.number) w.holds s
+        let w = listing_tells (sequence_on b) r x (Err (notListed why)) e in stopped why (stop_on (list_tests b) (room_test (sequence_on b)) why w.number) w.holds s
 
 -- a line that its reader refuses by the number x is answered by it alone
 pub line_refused : (b : RetractableBoard) {m x n : ℕ} {o out p q : List ℕ} → eqb x 0 ≡ false → m ≡ x → Shows (refused_text x) n o out

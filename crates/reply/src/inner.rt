@@ -11,17 +11,16 @@ ghost use Rattle.reply.specs.Replies.{refused_text, listed_tests, board_text, Sh
 
 use board::RetractableBoard;
 use laws::Edition;
-use position_text::Copied;
 use refusal::Refusal;
-use slots::Listed;
+use slots::Unlisted;
 
 // `refused N`, and nothing else, by the number alone: records are refused by numbers that no board has.
 pub fn put_number(number: u8, out: &mut [u8; 196608]) -> usize
     ensures { Shows (refused_text number) result out.old out.new }
 {
-    let a = output::put_bytes(out, 0, b"refused ").used(0);
-    let d = output::put_decimal(out, a, number as u64).used(a);
-    output::put_bytes(out, d, b"\n").used(d)
+    let a = output::put_bytes(out, 0, b"refused ").unwrap_or(0);
+    let d = output::put_decimal(out, a, number as u64).unwrap_or(a);
+    output::put_bytes(out, d, b"\n").unwrap_or(d)
 }
 
 // The board's own checkers are the Laws', since its gate let it pass.
@@ -31,11 +30,11 @@ fn put_lists(b: RetractableBoard, listed: &[u16], strict: &[u16], out: &mut [u8;
 {
     let p = text::inner::print(b, out);
     match p {
-        Copied::Count(n) => {
-            let end = output::put_bytes(out, n, b"\n").used(n);
-            rows::report(out, end, b.checkers, listed, strict).used(end)
+        Ok(n) => {
+            let end = output::put_bytes(out, n, b"\n").unwrap_or(n);
+            rows::report(out, end, b.checkers, listed, strict).unwrap_or(end)
         }
-        Copied::Room(_) => 0,
+        Err(_) => 0,
     }
 }
 
@@ -51,9 +50,9 @@ fn put_strict(
 {
     let s = strict::inner::list(t, b, strict);
     match s {
-        Listed::Count(n) => put_lists(b, listed, &strict[..n], out),
-        Listed::Room(_) => super::put_refused(Refusal::Room, out),
-        Listed::Refused(why) => super::put_refused(why, out),
+        Ok(n) => put_lists(b, listed, &strict[..n], out),
+        Err(Unlisted::Room(_)) => super::put_refused(Refusal::Room, out),
+        Err(Unlisted::Refused(why)) => super::put_refused(why, out),
     }
 }
 
@@ -69,9 +68,9 @@ pub fn put_board(
 {
     let l = listing::inner::list(t, b, listed);
     match l {
-        Listed::Count(n) => put_strict(t, b, &listed[..n], strict, out),
-        Listed::Room(_) => super::put_refused(Refusal::Room, out),
-        Listed::Refused(why) => super::put_refused(why, out),
+        Ok(n) => put_strict(t, b, &listed[..n], strict, out),
+        Err(Unlisted::Room(_)) => super::put_refused(Refusal::Room, out),
+        Err(Unlisted::Refused(why)) => super::put_refused(why, out),
     }
 }
 

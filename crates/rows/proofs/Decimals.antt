@@ -11,11 +11,11 @@ use lib.Seq.{length-take-le}
 use borrow.Author.Tests.{ltb-true, ltb-false}
 use Rattle.io.specs.Digits.{hex_digit_ascii, last_digits, IsDigitCount}
 use Rattle.io.specs.Counts.{IsPrefixLen}
-use Rattle.output.specs.declared.Put.{Put}
 use Rattle.output.specs.Appending.{used_of, Puts, PutsDecimal, Adds}
 use Rattle.output.proofs.Added.{used_adds, added_len_lem, added_bytes, added_length, fewest_one}
 use Rattle.rows.specs.Rows.{decimal_in, decimal_of, listed_word, strict_word, head_of}
 use Rattle.output.proofs.Adding.{adds_then}
+use Rattle.std.specs.Prelude.{Result}
 
 -- a number of two digits or more, without its last
 fewer : (x k : ℕ) → 10 ≤ x → IsDigitCount 10 1 x (suc (suc k)) → IsDigitCount 10 1 (x / 10) (suc k)
@@ -61,7 +61,7 @@ few_digits k (suc n) x h = by k (ltb x 10) refl h (λ j l. few_digits j n (x / 1
 pub number_short : (x : ℕ) → x < 2 ^ 64 → length (decimal_of x) ≤ 20
 number_short x h = few_digits 19 (suc x) x (omega arith)
 
-module _ (o after : List ℕ) (len x : ℕ) (r : Put) (h : x < 2 ^ 64) (a : PutsDecimal o len x r after) where
+module _ (o after : List ℕ) (len x : ℕ) (r : Result ℕ ℕ) (h : x < 2 ^ 64) (a : PutsDecimal o len x r after) where
   same : last_digits 10 a.places x ≡ decimal_of x
   same = digits_are (suc x) x a.places (omega arith) a.fewest
 
@@ -73,7 +73,7 @@ pub head_short : (a b : ℕ) → a < 2 ^ 64 → b < 2 ^ 64 → length (head_of a
 head_short a b ha hb = simp length-append (omega (arith, number_short a ha, number_short b hb))
 
 -- the head, in a buffer of 256
-module _ (o o₁ o₂ o₃ o₄ o₅ : List ℕ) (a b n₁ n₂ n₃ n₄ n : ℕ) (r s : Put) (l : length o ≡ 256) (ha : a < 2 ^ 64) (hb : b < 2 ^ 64) (p₁ : Adds o 0 listed_word n₁ o₁)
+module _ (o o₁ o₂ o₃ o₄ o₅ : List ℕ) (a b n₁ n₂ n₃ n₄ n : ℕ) (r s : Result ℕ ℕ) (l : length o ≡ 256) (ha : a < 2 ^ 64) (hb : b < 2 ^ 64) (p₁ : Adds o 0 listed_word n₁ o₁)
     (p₂ : PutsDecimal o₁ n₁ a r o₂) (u₂ : n₂ ≡ used_of r n₁) (p₃ : Adds o₂ n₂ strict_word n₃ o₃) (p₄ : PutsDecimal o₃ n₃ b s o₄) (u₄ : n₄ ≡ used_of s n₃)
     (p₅ : Adds o₄ n₄ (10 ∷ []) n o₅) where
   short : (length (decimal_of a) ≤ 20) × (length (decimal_of b) ≤ 20)

@@ -9,12 +9,12 @@ use lib.ListN.{length, take, length-append}
 use borrow.Author.Tests.{lt-leb, leb-true, leb-false}
 use Rattle.io.specs.Counts.{IsPrefixLen}
 use Rattle.squares.specs.Members.{concat}
-use Rattle.output.specs.declared.Put.TheVariants.{Count, Room}
 use Rattle.output.specs.Appending.{Puts, Adds}
 use Rattle.output.proofs.Added.{puts_none, added_len_lem, added_length, added_puts}
 use Rattle.rows.specs.Rows.{listed_row, strict_row, rows_of, head_of, checkers_line, report_of}
 use Rattle.output.proofs.Adding.{adds_as, adds_then}
 use Rattle.rows.proofs.Rows.{listed_size}
+use Rattle.std.specs.Prelude.{Err, Ok}
 
 -- h has the lines above the rows, g the rows of the strict retractions, and `more` is their number
 module _ (checkers : ℕ) (o listed strict h : List ℕ) (len n more : ℕ) (counts : IsPrefixLen n h)
@@ -35,7 +35,7 @@ module _ (checkers : ℕ) (o listed strict h : List ℕ) (len n more : ℕ) (cou
 
   -- m is the report's size as far as a usize counts it, which is more than o has
   module _ (m : ℕ) (counted : m ≡ min (n + 11 * length listed + 11 * more) 18446744073709551615) (slice : length o < 2 ^ 63) where
-    pub no_room : leb (len + m) (length o) ≡ false → Puts o len (report_of checkers listed strict) (Room m) o
+    pub no_room : leb (len + m) (length o) ≡ false → Puts o len (report_of checkers listed strict) (Err m) o
     no_room e =
         puts_none o (report_of checkers listed strict) len
         (lt-leb (len + length (report_of checkers listed strict)) (length o) (omega (arith, size, leb-false (len + m) (length o) e))) m
@@ -69,7 +69,7 @@ module _ (checkers : ℕ) (o listed strict h : List ℕ) (len n more : ℕ) (cou
               added_length x (concat f listed) y a b q listed_room,
             )
 
-        pub report_put : (z : List ℕ) (r : ℕ) → Adds y b (concat g strict) r z → Puts o len (report_of checkers listed strict) (Count r) z
+        pub report_put : (z : List ℕ) (r : ℕ) → Adds y b (concat g strict) r z → Puts o len (report_of checkers listed strict) (Ok r) z
         unfolding report_of
         report_put z r w =
             let l = concat f listed in

@@ -90,7 +90,7 @@ fn put_row(out: &mut [u8], len: usize, slot: u16, sign: u8) -> usize
     ensures { Adds out.old len (row_of slot sign) result out.new }
 {
     let bytes = row(slot, sign);
-    output::put_bytes(out, len, &bytes).used(len)
+    output::put_bytes(out, len, &bytes).unwrap_or(len)
 }
 
 // `+` in both, `-` listed only; the set has the strict ones.
@@ -181,11 +181,11 @@ pub fn count_strict(strict: &[u16], listed: &[u16]) -> usize
 fn put_head(out: &mut [u8; 256], a: u64, b: u64) -> usize
     ensures { IsPrefixLen result out.new × (take result out.new ≡ head_of a b) }
 {
-    let listed = output::put_bytes(out, 0, b"listed ").used(0);
-    let first = output::put_decimal(out, listed, a).used(listed);
-    let strict = output::put_bytes(out, first, b" strict ").used(first);
-    let second = output::put_decimal(out, strict, b).used(strict);
-    output::put_bytes(out, second, b"\n").used(second)
+    let listed = output::put_bytes(out, 0, b"listed ").unwrap_or(0);
+    let first = output::put_decimal(out, listed, a).unwrap_or(listed);
+    let strict = output::put_bytes(out, first, b" strict ").unwrap_or(first);
+    let second = output::put_decimal(out, strict, b).unwrap_or(strict);
+    output::put_bytes(out, second, b"\n").unwrap_or(second)
 }
 
 // `listed A strict B` and under it the checkers' line, which 256 bytes hold.
@@ -194,7 +194,7 @@ pub fn put_top(out: &mut [u8; 256], a: u64, b: u64, checkers: u64) -> usize
 {
     let head = put_head(out, a, b);
     let end = square_names::inner::put_squares(out, head, checkers);
-    output::put_bytes(out, end, b"\n").used(end)
+    output::put_bytes(out, end, b"\n").unwrap_or(end)
 }
 
 // How many bytes a head and a + b rows of 11 bytes have, as far as a usize counts them.

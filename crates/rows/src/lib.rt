@@ -4,13 +4,11 @@
 ghost use Rattle.output.specs.Appending.{Puts};
 ghost use Rattle.rows.specs.Rows.{report_of};
 
-use output::Put;
-
 pub mod inner; // inner.rt: sets of slots, the lines above the rows, the rows, and how many bytes they have
 
 // The report of the checkers and of the listed and the strict retractions behind the first `len` bytes of a buffer, all or nothing. Nothing
 // is written before the room is known.
-pub fn report(out: &mut [u8], len: usize, checkers: u64, listed: &[u16], strict: &[u16]) -> Put
+pub fn report(out: &mut [u8], len: usize, checkers: u64, listed: &[u16], strict: &[u16]) -> Result<usize, usize>
     ensures { Puts out.old len (report_of checkers listed.now strict.now) result out.new }
 {
     let mut top = [0u8; 256];
@@ -20,11 +18,11 @@ pub fn report(out: &mut [u8], len: usize, checkers: u64, listed: &[u16], strict:
     let more = inner::count_strict_by(strict, &in_listed);
     let size = inner::size(n, listed.len(), more);
     if !output::inner::has_room(out.len(), len, size) {
-        return Put::Room(size);
+        return Err(size);
     }
     let mut in_strict = [0u64; 1024];
     inner::mark_all(strict, &mut in_strict);
-    let a = output::put_bytes(out, len, &top[..n]).used(len);
+    let a = output::put_bytes(out, len, &top[..n]).unwrap_or(len);
     let b = inner::put_listed_by(out, a, listed, &in_strict);
-    Put::Count(inner::put_strict_by(out, b, strict, &in_listed))
+    Ok(inner::put_strict_by(out, b, strict, &in_listed))
 }

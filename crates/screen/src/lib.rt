@@ -7,7 +7,7 @@ ghost use Rattle.screen.specs.Screens.{opening_text, Shown};
 use board::RetractableBoard;
 use laws::ChessRetraction;
 use retraction_gen::RetractionGen;
-use text::Printed;
+use text::Unprinted;
 
 pub mod inner; // inner.rt: one press over a lent table
 
@@ -34,15 +34,15 @@ pub fn opening(b: RetractableBoard, out: &mut [u8; 196608]) -> usize
 {
     let p = text::print(b, out);
     match p {
-        Printed::Count(n) => {
+        Ok(n) => {
             let a = words::inner::put(out, n, b"\n");
             let d = diagram::inner::put_board(out, a, b, 64, 64);
             let turn = b.turn;
             let side = words::inner::put_side(out, d, turn);
             words::inner::put(out, side, b" to move. A key shows a last move, q leaves.\n")
         }
-        Printed::Room(_) => 0,
-        Printed::Refused(why) => reply::put_refused(why, out),
+        Err(Unprinted::Room(_)) => 0,
+        Err(Unprinted::Refused(why)) => reply::put_refused(why, out),
     }
 }
 

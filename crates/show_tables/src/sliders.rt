@@ -5,43 +5,20 @@ ghost use Rattle.std.specs.Prelude.{◌<◌, ◌≤◌};
 use super::end_with;
 use std::io::{Input, Read};
 
-// A set, the end of the input, or a line of another form.
-#[derive(Drop)]
-enum Line {
-    Set(u64),
-    End,
-    Malformed,
-}
-
 // No input uses the turns up. A line of another form ends them.
 pub(super) fn show_all(rt: &(impl Input + Print + Eprint)) {
     let mut line = [0u8; 17];
     for _ in 0..u64::MAX {
-        let l = next(rt, &mut line);
-        match l {
-            Line::End => {
-                return;
-            }
-            Line::Malformed => {
-                let _ = eprintln!(rt; "show_tables: a line is no set");
-                return;
-            }
-            Line::Set(occ) => {
-                show_set(rt, occ);
-            }
+        let n = read_full(rt, &mut line);
+        if n == 0 {
+            return;
         }
+        let Some(occ) = set_of(&line[..n]) else {
+            let _ = eprintln!(rt; "show_tables: a line is no set");
+            return;
+        };
+        show_set(rt, occ);
     }
-}
-
-fn next(stdin: &impl Input, line: &mut [u8; 17]) -> Line {
-    let n = read_full(stdin, line);
-    if n == 0 {
-        return Line::End;
-    }
-    if n < 17 {
-        return Line::Malformed;
-    }
-    set_of(line)
 }
 
 // Reads until the line is full, the input ends or a read fails, and answers how many bytes came.
@@ -50,6 +27,7 @@ fn read_full(stdin: &impl Input, line: &mut [u8; 17]) -> usize
 {
     let mut reader = stdin.reader();
     let mut n = 0;
+    // No `read_exact`: it does not say how many bytes came.
     while n < 17 {
         let Ok(more) = reader.read(&mut line[n..]) else {
             return n;
@@ -62,19 +40,20 @@ fn read_full(stdin: &impl Input, line: &mut [u8; 17]) -> usize
     n
 }
 
-fn set_of(line: &[u8; 17]) -> Line {
-    if line[16] != b'\n' {
-        return Line::Malformed;
+// The set of a line, where that is sixteen hexadecimal digits and a newline.
+fn set_of(line: &[u8]) -> Option<u64> {
+    if line.len() != 17 || line[16] != b'\n' {
+        return None;
     }
     let mut set = 0u64;
-    for i in 0usize..16 {
-        let d = digits::hex_digit(line[i]);
+    for b in &line[..16] {
+        let d = digits::hex_digit(*b);
         if d > 15 {
-            return Line::Malformed;
+            return None;
         }
         set = (set << 4) | d;
     }
-    Line::Set(set)
+    Some(set)
 }
 
 fn show_set(out: &impl Print, occ: u64) {

@@ -1,18 +1,18 @@
 -- "This list, and the iterator's sequence when listed, go to lent 16-bit slots, packed, with the length; slots beyond keep their numbers"
-use Rattle.std.specs.Prelude.{List, [], ◌∷◌, ℕ, ◌+◌, set}
+use Rattle.std.specs.Prelude.{List, [], ◌∷◌, ℕ, ◌+◌, set, Err, Ok, Result}
 use Rattle.laws.specs.declared.ChessRetraction.{ChessRetraction}
 use Rattle.laws.specs.Retractions.{packed}
 use Rattle.refusal.specs.declared.Refusal.TheVariants.{Room as room}
 use Rattle.refusal.specs.Refusals.{number_of}
 use Rattle.refusal.specs.Said.{Said, says, told, refusal}
-use Rattle.slots.specs.declared.Listed.{Listed}
-use Rattle.slots.specs.declared.Listed.TheVariants.{Count, Room, Refused}
+use Rattle.slots.specs.declared.Unlisted.{Unlisted}
+use Rattle.slots.specs.declared.Unlisted.TheVariants.{Room, Refused}
 
 -- how many slots were written; "ROOM also returns the number of slots .. needed"; or another refusal
-abbrev pub listed_says : Listed → Said
-listed_says (Count n) = told (n ∷ [])
-listed_says (Room n) = says (number_of room) (n ∷ [])
-listed_says (Refused why) = refusal why
+abbrev pub listed_says : Result ℕ Unlisted → Said
+listed_says (Ok n) = told (n ∷ [])
+listed_says (Err (Room n)) = says (number_of room) (n ∷ [])
+listed_says (Err (Refused why)) = refusal why
 
 -- a list that is written slot after slot from n on
 unfoldable pub fill_from : List ℕ → ℕ → List ChessRetraction → List ℕ

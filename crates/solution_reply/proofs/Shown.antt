@@ -5,7 +5,6 @@ use Prim.Native.Nat.{ℕ, ◌+◌, ◌≤◌, ◌<◌, ◌^◌}
 use native.Mathlib.Omega.{arith}
 use lib.ListN.{length, length-append}
 use Rattle.laws.specs.declared.ChessRetraction.{ChessRetraction}
-use Rattle.output.specs.declared.Put.{Put}
 use Rattle.output.specs.Appending.{used_of, PutsDecimal, Adds}
 use Rattle.rows.specs.Rows.{decimal_of, fields_by}
 use Rattle.reply.specs.Replies.{newline, Shows}
@@ -15,8 +14,9 @@ use Rattle.solution_reply.specs.Replies.{incomplete_word, numbered_text, incompl
 use Rattle.output.proofs.Adding.{adds_then}
 use Rattle.rows.proofs.Decimals.{number_short, decimal_added}
 use Rattle.reply.proofs.Shown.{shown}
+use Rattle.std.specs.Prelude.{Result}
 
-pub numbered_shown : (w o o₁ o₂ o₃ : List ℕ) (a d n x : ℕ) (v : Put) → length w ≤ 16 → length o ≡ 196608 → x < 2 ^ 64 → Adds o 0 w a o₁ → PutsDecimal o₁ a x v o₂
+pub numbered_shown : (w o o₁ o₂ o₃ : List ℕ) (a d n x : ℕ) (v : Result ℕ ℕ) → length w ≤ 16 → length o ≡ 196608 → x < 2 ^ 64 → Adds o 0 w a o₁ → PutsDecimal o₁ a x v o₂
     → d ≡ used_of v a → Adds o₂ d newline n o₃ → Shows (numbered_text w x) n o o₃
 numbered_shown w o o₁ o₂ o₃ a d n x v h l f p q u z =
     let s = number_short x f in

@@ -11,9 +11,9 @@ fn put_numbered(word: &[u8], x: usize, out: &mut [u8; 196608]) -> usize
     requires { length word.now ≤ 16 }
     ensures { Shows (numbered_text word.now x) result out.old out.new }
 {
-    let a = output::put_bytes(out, 0, word).used(0);
-    let d = output::put_decimal(out, a, x as u64).used(a);
-    output::put_bytes(out, d, b"\n").used(d)
+    let a = output::put_bytes(out, 0, word).unwrap_or(0);
+    let d = output::put_decimal(out, a, x as u64).unwrap_or(a);
+    output::put_bytes(out, d, b"\n").unwrap_or(d)
 }
 
 // The first missing retraction in our fields.
@@ -21,9 +21,9 @@ fn put_incomplete(r: ChessRetraction, out: &mut [u8; 196608]) -> usize
     ensures { Shows (incomplete_text r) result out.old out.new }
 {
     let fields = rows::inner::fields_of(r);
-    let a = output::put_bytes(out, 0, b"incomplete ").used(0);
-    let f = output::put_bytes(out, a, &fields).used(a);
-    output::put_bytes(out, f, b"\n").used(f)
+    let a = output::put_bytes(out, 0, b"incomplete ").unwrap_or(0);
+    let f = output::put_bytes(out, a, &fields).unwrap_or(a);
+    output::put_bytes(out, f, b"\n").unwrap_or(f)
 }
 
 // A line's own number stands behind 23.
@@ -42,7 +42,7 @@ pub fn put_verdict(told: Checked, out: &mut [u8; 196608]) -> usize
     ensures { Shows (verdict_text told) result out.old out.new }
 {
     match told {
-        Checked::Complete => output::put_bytes(out, 0, b"complete\n").used(0),
+        Checked::Complete => output::put_bytes(out, 0, b"complete\n").unwrap_or(0),
         Checked::Wrong(k) => put_numbered(b"wrong ", k, out),
         Checked::Incomplete(r) => put_incomplete(r, out),
         Checked::Refused(why) => put_refusal(why, out),

@@ -1,50 +1,37 @@
 // Answers standard input, a file with a position on its first line and a solution below it, by the verdict on the solution.
 #![tactic(auto)]
 
-ghost use Rattle.std.specs.Prelude.{◌≡◌, ℕ, ◌≤◌, length};
+ghost use Rattle.std.specs.Prelude.{◌≤◌, IfOk, length};
 ghost use Rattle.io.specs.Counts.{IsPrefixLen};
-ghost use Rattle.solutions.specs.declared.Filled.TheVariants.{Bytes};
 
 use std::io::{ErrorKind, Input, Read};
-
-// How many bytes of the file came, or a read that failed.
-#[derive(Drop)]
-enum Filled {
-    Bytes(usize),
-    Failed,
-}
 
 fn main(rt: HostRuntime) {
     let mut file = io::large_buffer();
     let mut out = [0u8; 196608];
-    let f = fill(&rt, &mut file);
-    match f {
-        Filled::Failed => {
-            let _ = eprintln!(rt; "solutions: the input cannot be read");
-        }
-        Filled::Bytes(n) => {
-            answer(&rt, &file, n, &mut out);
-        }
-    }
+    let Ok(n) = fill(&rt, &mut file) else {
+        let _ = eprintln!(rt; "solutions: the input cannot be read");
+        return;
+    };
+    answer(&rt, &file, n, &mut out);
 }
 
-// As much as comes until the buffer is full or the input ends. What is longer needs no more: of a position in form and lines in form 4,097 lines
+// How many bytes came until the buffer was full or the input ended. What is longer needs no more: of a position in form and lines in form 4,097 lines
 // end long before (solution_reply/proofs/Enough.antt).
-fn fill(stdin: &impl Input, file: &mut [u8]) -> Filled
-    ensures { (n : ℕ) → result ≡ Bytes n → n ≤ length file.old }
+fn fill(stdin: &impl Input, file: &mut [u8]) -> std::io::Result<usize>
+    ensures { IfOk result (λ n. n ≤ length file.old) }
 {
     let mut reader = stdin.reader();
     let mut n = 0;
+    // No `read_exact`: it does not say how many bytes came.
     while n < file.len() {
-        let Ok(more) = reader.read(&mut file[n..]) else {
-            return Filled::Failed;
-        };
+        let more = reader.read(&mut file[n..])?;
         if more == 0 {
-            return Filled::Bytes(n);
+            break;
         }
         n += more;
     }
-    Filled::Bytes(n)
+    Ok(n)
 }
 
 // One write.

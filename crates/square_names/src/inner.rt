@@ -16,7 +16,7 @@ fn put_spaced(out: &mut [u8], len: usize, square: u8) -> usize
     ensures { Adds out.old len (spaced_name square) result out.new }
 {
     let [file, rank] = name(square);
-    output::put_bytes(out, len, &[b' ', file, rank]).used(len)
+    output::put_bytes(out, len, &[b' ', file, rank]).unwrap_or(len)
 }
 
 // Each square of a set, the lowest first, behind a space.
@@ -37,9 +37,9 @@ pub fn put_squares(out: &mut [u8], len: usize, set: u64) -> usize
     ensures { Adds out.old len (squares_text set) result out.new }
 {
     if set == 0 {
-        return output::put_bytes(out, len, b"-").used(len);
+        return output::put_bytes(out, len, b"-").unwrap_or(len);
     }
     let first = squares::lowest(set);
-    let at = output::put_bytes(out, len, &name(first)).used(len);
+    let at = output::put_bytes(out, len, &name(first)).unwrap_or(len);
     put_all_spaced(out, at, squares::without(set, first))
 }

@@ -12,7 +12,7 @@ use presses::Press;
 use refusal::{Refusal, Verdict};
 use retraction_gen::RetractionGen;
 use screen::Screen;
-use slots::Listed;
+use slots::Unlisted;
 use std::env::FillError;
 use std::io::{ErrorKind, Input, IsTerminal};
 use std::rt::Env;
@@ -201,7 +201,7 @@ fn listed(
     let board = screen.board;
     let l = strict::inner::strict_into(t, board, strict);
     match l {
-        Listed::Count(strict) => {
+        Ok(strict) => {
             let n = screen::opening(board, out);
             let is_written = write(rt, out, n);
             Opened {
@@ -211,8 +211,8 @@ fn listed(
                 is_written,
             }
         }
-        Listed::Room(_) => closed(rt, screen, Refusal::Room, out),
-        Listed::Refused(why) => closed(rt, screen, why, out),
+        Err(Unlisted::Room(_)) => closed(rt, screen, Refusal::Room, out),
+        Err(Unlisted::Refused(why)) => closed(rt, screen, why, out),
     }
 }
 

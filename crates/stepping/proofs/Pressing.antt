@@ -25,7 +25,7 @@ still_ended g h y e =
     (ap (λ (x : Answered). x.said) k, ap (λ (x : Answered). x.cursor) k)
 
 -- any presses of a cursor that yields a list
-pub presses_yield : (g k : RetractionGen) (l : List ChessRetraction) (xs : List Option ChessRetraction) → Yields g l → Presses g xs k → xs ≡ answers_of (length xs) l
+pub presses_yield : (g k : RetractionGen) (l : List ChessRetraction) (xs : List (Option ChessRetraction)) → Yields g l → Presses g xs k → xs ≡ answers_of (length xs) l
 unfolding Yields answers_of Presses
 presses_yield g k l [] y p = refl
 presses_yield g k [] (a ∷ xs) y (h, s, p) =
@@ -33,7 +33,7 @@ presses_yield g k [] (a ∷ xs) y (h, s, p) =
 presses_yield g k (r ∷ rs) (a ∷ xs) y (h, s, p) =
     ap₂ ◌∷◌ (next_one a (Some r) (s.answer ∙ y.0)) (presses_yield h k rs xs (subst (λ (x : RetractionGen). Yields x rs) (sym s.cursor) y.1) p)
 
-stays : (h k : RetractionGen) (xs : List Option ChessRetraction) → ((next_of h).said ≡ end_said) × ((next_of h).cursor ≡ h) → Presses h xs k → k ≡ h
+stays : (h k : RetractionGen) (xs : List (Option ChessRetraction)) → ((next_of h).said ≡ end_said) × ((next_of h).cursor ≡ h) → Presses h xs k → k ≡ h
 unfolding Presses
 stays h k [] e p = p
 stays h k (a ∷ xs) e (x, s, p) =
@@ -41,7 +41,7 @@ stays h k (a ∷ xs) e (x, s, p) =
     stays x k xs (subst (λ (z : RetractionGen). ((next_of z).said ≡ end_said) × ((next_of z).cursor ≡ z)) (sym same) e) p ∙ same
 
 -- whatever the record held: once a press has yielded the end, each further one yields it, and the record stays as it is
-pub presses_rest : (g h k : RetractionGen) (xs : List Option ChessRetraction) → Press g None h → Presses h xs k
+pub presses_rest : (g h k : RetractionGen) (xs : List (Option ChessRetraction)) → Press g None h → Presses h xs k
     → (xs ≡ answers_of (length xs) []) × (k ≡ h)
 unfolding Yields
 presses_rest g h k xs s p =
@@ -49,6 +49,6 @@ presses_rest g h k xs s p =
     (presses_yield h k [] xs (still_ended g h y s.cursor).0 p, stays h k xs (still_ended g h y s.cursor) p)
 
 -- from `new_legal`, whatever it answers: n presses yield the first n of the board's sequence, and the end behind them
-pub whole_pressed : (b : RetractableBoard) (m : Made) → Makes (list_tests b) (cursor_on b) m → m.verdict ≡ nothing_refused → (k : RetractionGen) (xs : List Option ChessRetraction)
+pub whole_pressed : (b : RetractableBoard) (m : Made) → Makes (list_tests b) (cursor_on b) m → m.verdict ≡ nothing_refused → (k : RetractionGen) (xs : List (Option ChessRetraction))
     → Presses m.cursor xs k → xs ≡ answers_of (length xs) (sequence_on b)
 whole_pressed b m made e k xs p = presses_yield m.cursor k (sequence_on b) xs (whole_sequence b m made e) p

@@ -103,7 +103,7 @@ module _ (b : RetractableBoard) (i : ℕ) where
       same = one_place b h p.retraction q.retraction x.1.past y.1.past same_place
 
   pub one_found : (r s : Result (Option Placed) Refusal) → Finds b i r → Finds b i s → r ≡ s
-  one_found (Ok (Some p)) (Ok (Some q)) x y = let h = passed_gate b (sym x.number) in ap (λ (k : Placed). Ok (Some k)) (same_found p q h (x.found h) (y.found h))
+  one_found (Ok (Some p)) (Ok (Some q)) x y = let h = passed_gate b (sym x.number) in ap (λ (z : Placed). Ok (Some z)) (same_found p q h (x.found h) (y.found h))
   one_found (Ok (Some p)) (Ok None) x y = let h = passed_gate b (sym x.number) in absurd (y.found h p.retraction (x.found h).1.past (x.found h).1.on)
   one_found (Ok None) (Ok (Some q)) x y = let h = passed_gate b (sym x.number) in absurd (x.found h q.retraction (y.found h).1.past (y.found h).1.on)
   one_found (Ok None) (Ok None) x y = refl

@@ -23,8 +23,7 @@ use Rattle.refusal.specs.Refusals.{number_of, nothing_refused}
 use Rattle.refusal.specs.Said.{first_failing, told, Writes}
 use Rattle.board.specs.declared.RetractableBoard.{RetractableBoard}
 use Rattle.board.specs.Gate.{pos_on, to_laws, gate_of, board_tests}
-use Rattle.slots.specs.declared.Listed.{Listed}
-use Rattle.slots.specs.declared.Listed.TheVariants.{Refused as notListed}
+use Rattle.slots.specs.declared.Unlisted.{Unlisted}
 use Rattle.slots.specs.Slots.{listed_says}
 use Rattle.strict_search.specs.inner.Searching.{strict_moves, test_of, Next}
 use Rattle.strict.specs.Demand.{Past, IsStrictList, Lists, Counts, Answers}
@@ -35,7 +34,8 @@ use Rattle.refusal.proofs.Writing.{no_both, writes_behind, writes_refused}
 use Rattle.board.proofs.Passing.{gate_passed, gate_by, accepted_by_gate}
 use Rattle.board.proofs.Numbers.{gate_refuses, gate_passes}
 use Rattle.strict_search.proofs.Remaining.{rest, all_rest, at_end, one_more}
-use Rattle.std.specs.Prelude.{Err, Ok}
+use Rattle.std.specs.Prelude.{Err, Ok, Result}
+use Rattle.slots.specs.declared.Unlisted.TheVariants.{Refused as notListed}
 
 abbrev from_laws : Board → RetractableBoard
 from_laws e = record {
@@ -150,7 +150,7 @@ module _ (b : RetractableBoard) (h : gate_of b ≡ nothing_refused) (j : ℕ) (x
 
 -- the answers behind the gate
 module _ (b : RetractableBoard) where
-  pub listed_told : {s after : List ℕ} (r : Listed) → gate_of b ≡ nothing_refused → Writes [] (map packed (strict_moves (pos_on b))) s (listed_says r) after → Lists b s r after
+  pub listed_told : {s after : List ℕ} (r : Result ℕ Unlisted) → gate_of b ≡ nothing_refused → Writes [] (map packed (strict_moves (pos_on b))) s (listed_says r) after → Lists b s r after
   listed_told r h e = record { moves = strict_moves (pos_on b); exact = demanded b; into = writes_behind (gate_passes b (gate_of b) refl h) e }
 
   pub counted_told : {n : ℕ} → gate_of b ≡ nothing_refused → n ≡ length (strict_moves (pos_on b)) → Counts b (Ok n)
@@ -167,7 +167,7 @@ module _ (b : RetractableBoard) where
     number : number_of why ≡ first_failing (board_tests b)
     number = gate_refuses b (gate_of b) refl why h
 
-    pub listed_refused : (s : List ℕ) → Lists b s (notListed why) s
+    pub listed_refused : (s : List ℕ) → Lists b s (Err (notListed why)) s
     listed_refused s = record { moves = []; exact = nothing_asked; into = writes_refused why number }
 
     pub counted_refused : Counts b (Err why)

@@ -13,7 +13,7 @@ use Rattle.refusal.specs.Refusals.{number_of, nothing_refused}
 use Rattle.refusal.specs.Said.{first_failing, number_said, told}
 use Rattle.board.specs.declared.RetractableBoard.{RetractableBoard}
 use Rattle.board.specs.Gate.{gate_of, board_tests}
-use Rattle.slots.specs.declared.Listed.{Listed}
+use Rattle.slots.specs.declared.Unlisted.{Unlisted}
 use Rattle.strict.specs.Demand.{IsStrictList, Lists, counted_says, Counts, Answers}
 use Rattle.laws.proofs.StrictMembers.{in_cases}
 use Rattle.refusal.proofs.Saying.{never, number_one, verdict_one}
@@ -67,7 +67,7 @@ one_where : (b : RetractableBoard) (l k : List ChessRetraction) → (gate_of b �
     → first_failing (board_tests b) ≡ 0 → l ≡ k
 one_where b l k x y h = let a = passed_gate b h in one_list b l k (x a) (y a)
 
-pub one_listing : (b : RetractableBoard) (s : List ℕ) (r q : Listed) (t u : List ℕ) → Lists b s r t → Lists b s q u → (r ≡ q) × (t ≡ u)
+pub one_listing : (b : RetractableBoard) (s : List ℕ) (r q : Result ℕ Unlisted) (t u : List ℕ) → Lists b s r t → Lists b s q u → (r ≡ q) × (t ≡ u)
 one_listing b s r q t u x y =
     one_listed y.moves r q t u
     (writes_any (map packed y.moves) (λ h. ap (map packed) (one_where b x.moves y.moves x.exact y.exact h)) x.into) y.into

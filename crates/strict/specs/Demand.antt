@@ -8,7 +8,7 @@ use Rattle.laws.specs.Boards.{Shaped}
 use Rattle.refusal.specs.Said.{first_failing, Said, number_said, told, refusal, behind, Writes}
 use Rattle.board.specs.declared.RetractableBoard.{RetractableBoard}
 use Rattle.board.specs.Gate.{pos_on, to_laws, gate_of, board_tests}
-use Rattle.slots.specs.declared.Listed.{Listed}
+use Rattle.slots.specs.declared.Unlisted.{Unlisted}
 use Rattle.slots.specs.Slots.{listed_says}
 use Rattle.refusal.specs.Refusals.{nothing_refused}
 use Rattle.refusal.specs.declared.Refusal.{Refusal}
@@ -25,7 +25,7 @@ pub record IsStrictList (b : RetractableBoard) (l : List ChessRetraction) : Type
   pub order : Ascending (map place l)
 
 -- "This list .. go to lent 16-bit slots, packed, with the length; slots beyond keep their numbers"; 1 to 7, then "strict list .. 13"
-pub record Lists (b : RetractableBoard) (s : List ℕ) (r : Listed) (after : List ℕ) : Type 0 where
+pub record Lists (b : RetractableBoard) (s : List ℕ) (r : Result ℕ Unlisted) (after : List ℕ) : Type 0 where
   pub moves : List ChessRetraction
   pub exact : gate_of b ≡ nothing_refused → IsStrictList b moves
   pub into : Writes (board_tests b) (map packed moves) s (listed_says r) after

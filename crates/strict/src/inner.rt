@@ -11,7 +11,7 @@ use super::Placed;
 use board::RetractableBoard;
 use laws::Position;
 use refusal::Refusal;
-use slots::Listed;
+use slots::Unlisted;
 
 // The position of a board that its gate let pass.
 pub fn today(b: RetractableBoard) -> Position
@@ -22,7 +22,7 @@ pub fn today(b: RetractableBoard) -> Position
 }
 
 // The strict retractions of a board that its gate let pass, into slots: refusal 13.
-pub fn list(t: &[u64; 4096], b: RetractableBoard, slots: &mut [u16]) -> Listed
+pub fn list(t: &[u64; 4096], b: RetractableBoard, slots: &mut [u16]) -> Result<usize, Unlisted>
     requires { IsBetween t.now × (gate_of b ≡ nothing_refused) }
     ensures { Lists b slots.old result slots.new }
 {
@@ -31,13 +31,13 @@ pub fn list(t: &[u64; 4096], b: RetractableBoard, slots: &mut [u16]) -> Listed
 }
 
 // Refusals 1 to 7, then the list with its 13.
-pub fn strict_into(t: &[u64; 4096], b: RetractableBoard, slots: &mut [u16]) -> Listed
+pub fn strict_into(t: &[u64; 4096], b: RetractableBoard, slots: &mut [u16]) -> Result<usize, Unlisted>
     requires { IsBetween t.now }
     ensures { Lists b slots.old result slots.new }
 {
     let v = board::inner::gate(t, b);
     match v {
-        Err(why) => Listed::Refused(why),
+        Err(why) => Err(Unlisted::Refused(why)),
         Ok(()) => list(t, b, slots),
     }
 }

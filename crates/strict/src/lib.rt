@@ -7,7 +7,7 @@ ghost use Rattle.strict.specs.Onward.{Finds};
 use board::RetractableBoard;
 use laws::ChessRetraction;
 use refusal::Refusal;
-use slots::Listed;
+use slots::Unlisted;
 
 pub mod inner; // inner.rt: the same over a lent table, and the position of an accepted board and its strict list
 
@@ -19,7 +19,7 @@ pub struct Placed {
 }
 
 // The strict retractions of a board into slots, packed, by source, target, uncaptured man and mark: refusals 1 to 7, then 13.
-pub fn strict_into(b: RetractableBoard, slots: &mut [u16]) -> Listed
+pub fn strict_into(b: RetractableBoard, slots: &mut [u16]) -> Result<usize, Unlisted>
     ensures { Lists b slots.old result slots.new }
 {
     let t = tables::between_table();

@@ -11,7 +11,7 @@ ghost use Rattle.strict_search.specs.inner.Searching.{strict_moves, test_of, Nex
 ghost use Rattle.strict_search.specs.inner.Keeping.{kept_moves, Gathers};
 
 use laws::{ChessRetraction, Position};
-use slots::Listed;
+use slots::Unlisted;
 
 mod kept; // kept.rt: the sets of all sources in one array
 mod places; // places.rt: the strict places of one source, from its sets
@@ -98,15 +98,15 @@ fn fill(kept: &[u64; 320], slots: &mut [u16])
 }
 
 // The strict retractions of a position, into slots: refusal 13. Nothing is written before the room is known.
-pub fn list(t: &[u64; 4096], p: Position, slots: &mut [u16]) -> Listed
+pub fn list(t: &[u64; 4096], p: Position, slots: &mut [u16]) -> Result<usize, Unlisted>
     requires { IsBetween t.now × Today p }
     ensures { Writes [] (map packed (strict_moves (pos_at p))) slots.old (listed_says result) slots.new }
 {
     let mut kept = [0u64; 320];
     let n = gather(t, p, &mut kept);
     if n > slots.len() {
-        return Listed::Room(n);
+        return Err(Unlisted::Room(n));
     }
     fill(&kept, slots);
-    Listed::Count(n)
+    Ok(n)
 }

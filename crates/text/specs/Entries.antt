@@ -1,5 +1,5 @@
 -- What the two entries answer: a text into a board, and a board into a text.
-use Rattle.std.specs.Prelude.{◌≡◌, List, [], ◌∷◌, ℕ}
+use Rattle.std.specs.Prelude.{◌≡◌, List, [], ◌∷◌, ℕ, Err, Ok, Result}
 use Rattle.refusal.specs.declared.Refusal.TheVariants.{Room as room, Text as text}
 use Rattle.refusal.specs.Refusals.{number_of, verdict_number}
 use Rattle.refusal.specs.Said.{Test, Said, says, told, refusal}
@@ -9,11 +9,11 @@ use Rattle.board.specs.declared.Boarded.{Boarded}
 use Rattle.board.specs.Gate.{position_on, no_board}
 use Rattle.board.specs.Answers.{worked_of}
 use Rattle.board.specs.Said.{Boards}
-use Rattle.text.specs.declared.Printed.{Printed}
-use Rattle.text.specs.declared.Printed.TheVariants.{Count, Room, Refused}
+use Rattle.text.specs.declared.Unprinted.{Unprinted}
 use Rattle.laws.specs.declared.Edition.{Edition}
 use Rattle.laws.specs.declared.Position.{Position}
 use Rattle.position_text.specs.Form.{Says, printed}
+use Rattle.text.specs.declared.Unprinted.TheVariants.{Room, Refused}
 
 -- "text through 14, then 1 to 6": the board of the position that the text says in the caller's edition, through 1 to 6, or 14 beside the
 -- empty board where it says none
@@ -26,7 +26,7 @@ abbrev pub text_on : RetractableBoard → List ℕ
 text_on b = printed (position_on b)
 
 -- how many bytes were written; "ROOM also returns the number of .. bytes needed"; or another refusal
-abbrev pub printed_says : Printed → Said
-printed_says (Count n) = told (n ∷ [])
-printed_says (Room n) = says (number_of room) (n ∷ [])
-printed_says (Refused why) = refusal why
+abbrev pub printed_says : Result ℕ Unprinted → Said
+printed_says (Ok n) = told (n ∷ [])
+printed_says (Err (Room n)) = says (number_of room) (n ∷ [])
+printed_says (Err (Refused why)) = refusal why

@@ -7,11 +7,11 @@ ghost use Rattle.text.specs.Entries.{Reads, text_on};
 
 use board::{Boarded, RetractableBoard};
 use laws::Edition;
-use position_text::{Copied, Form};
+use position_text::Form;
 use refusal::Refusal;
 
 // The text of any board into a lent slice, whole or not at all.
-pub fn print(b: RetractableBoard, out: &mut [u8]) -> Copied
+pub fn print(b: RetractableBoard, out: &mut [u8]) -> Result<usize, usize>
     ensures { Writes [] (text_on b) out.old (copied_says result) out.new }
 {
     let line = position_text::inner::line_of(board::inner::position_of(b));

@@ -10,15 +10,13 @@ ghost use Rattle.text.specs.Entries.{Reads, text_on, printed_says};
 
 use board::{Boarded, RetractableBoard};
 use laws::Edition;
-use position_text::Copied;
 use refusal::Refusal;
 
 pub mod inner; // inner.rt: the printer without the gate, and the reader with a lent table
 
-// A board printed into a lent slice: how many bytes were written, or are needed, or why it was refused.
+// Why a board is not printed into a lent slice: how many bytes are needed, or its refusal.
 #[derive(Drop)]
-pub enum Printed {
-    Count(usize),
+pub enum Unprinted {
     Room(usize),
     Refused(Refusal),
 }
@@ -32,22 +30,22 @@ pub fn read(text: &[u8], edition: Edition) -> Boarded
 }
 
 // The text of a board, into a lent slice: refusals 1 to 7, then 13. Only a whole text is written.
-pub fn print(b: RetractableBoard, out: &mut [u8]) -> Printed
+pub fn print(b: RetractableBoard, out: &mut [u8]) -> Result<usize, Unprinted>
     ensures { Writes (board_tests b) (text_on b) out.old (printed_says result) out.new }
 {
     let t = tables::between_table();
     let v = board::inner::gate(&t, b);
     match v {
-        Err(r) => Printed::Refused(r),
+        Err(r) => Err(Unprinted::Refused(r)),
         Ok(()) => told(inner::print(b, out)),
     }
 }
 
-fn told(c: Copied) -> Printed
+fn told(c: Result<usize, usize>) -> Result<usize, Unprinted>
     ensures { printed_says result ≡ copied_says c }
 {
     match c {
-        Copied::Count(n) => Printed::Count(n),
-        Copied::Room(n) => Printed::Room(n),
+        Ok(n) => Ok(n),
+        Err(n) => Err(Unprinted::Room(n)),
     }
 }

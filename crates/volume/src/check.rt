@@ -1,8 +1,8 @@
 // A volume's tests: 17 over the head and the table, then 18 and 1 to 6 row by row.
-use super::answers::Answer;
-use super::bodies::Passed;
-use super::file::{File, Opened};
-use super::{bodies, clock, file, table};
+use super::answers::{Answer, Fault};
+use super::clock::Clock;
+use super::file::File;
+use super::{bodies, table};
 use std::rt::Files;
 use std::{fs, time};
 
@@ -12,38 +12,24 @@ pub(super) fn check(
     input: &[u8],
     rows: &mut [u8; 65536],
     boards: &mut [u8; 65536],
-) -> Answer {
-    let o = file::open(rt, input);
-    match o {
-        Opened::Unread => Answer::Unread,
-        Opened::Open(f) => {
-            let p = judge(rt, on_terminal, &f, false, rows, boards);
-            clock::stop(rt, p.clock);
-            p.answer
-        }
-    }
+) -> Result<Answer, Fault> {
+    let f = File::open(rt, input).ok_or(Fault::Unread)?;
+    let mut clock = Clock::start(rt, on_terminal);
+    let judged = judge(&f, false, rows, boards, &mut clock);
+    clock.stop();
+    Ok(Answer::Problems(judged?))
 }
 
-// `back` is on the way to lines, and this the first pass.
+// How many problems there are. `back` is on the way to lines, and this the first pass.
 pub(super) fn judge(
-    rt: &(impl time::Clock + Eprint),
-    on_terminal: bool,
     f: &File,
     back: bool,
     rows: &mut [u8; 65536],
     boards: &mut [u8; 65536],
-) -> Passed {
-    let clock = clock::start(rt, on_terminal);
-    let h = table::head(f, rows);
-    match h {
-        Answer::Problems(n) => {
-            let t = table::walk(f, n, back, 0, rows);
-            let a = t.answer;
-            match a {
-                Answer::Problems(_) => bodies::judge_all(rt, f, n, rows, boards, clock),
-                _ => bodies::pass(a, clock),
-            }
-        }
-        _ => bodies::pass(h, clock),
-    }
+    clock: &mut Clock<impl time::Clock + Eprint>,
+) -> Result<u16, Fault> {
+    let n = table::head(f, rows)?;
+    table::walk(f, n, back, 0, rows)?;
+    bodies::judge_all(f, n, rows, boards, clock)?;
+    Ok(n)
 }

@@ -3,56 +3,51 @@ use std::time;
 
 // The second that it was at the last look, where the system told it, and how many of them were seen to begin, up to three.
 #[derive(Drop)]
-pub struct Clock {
-    pub second: Option<u64>,
-    pub begun: u8,
-    pub is_on: bool,
-    pub is_shown: bool,
+pub struct Clock<'a, R> {
+    rt: &'a R,
+    second: Option<u64>,
+    begun: u8,
+    is_on: bool,
+    is_shown: bool,
 }
 
-pub(super) fn start(time: &impl time::Clock, is_on: bool) -> Clock {
-    Clock {
-        second: now(time),
-        begun: 0,
-        is_on,
-        is_shown: false,
+impl<'a, R: time::Clock + Eprint> Clock<'a, R> {
+    pub(super) fn start(rt: &'a R, is_on: bool) -> Clock<'a, R> {
+        Clock {
+            rt,
+            second: now(rt),
+            begun: 0,
+            is_on,
+            is_shown: false,
+        }
+    }
+
+    // So many problems are done. At most one sign a second, and none before the third second begins.
+    pub(super) fn tick(&mut self, problems: usize) {
+        if !self.is_on {
+            return;
+        }
+        let second = now(self.rt);
+        if second == self.second {
+            return;
+        }
+        self.second = second;
+        if self.begun < 2 {
+            self.begun += 1;
+            return;
+        }
+        self.is_shown = true;
+        let _ = eprint!(self.rt; "\rvolume: {problems} problems");
+    }
+
+    // The sign goes.
+    pub(super) fn stop(&self) {
+        if self.is_shown {
+            let _ = eprint!(self.rt; "\r\x1b[K");
+        }
     }
 }
 
 fn now(time: &impl time::Clock) -> Option<u64> {
     Some(time.since_1970().ok()?.as_secs())
-}
-
-// So many problems are done. At most one sign a second, and none before the third second begins.
-pub(super) fn tick(rt: &(impl time::Clock + Eprint), c: Clock, problems: usize) -> Clock {
-    if !c.is_on {
-        return c;
-    }
-    let second = now(rt);
-    let before = c.second;
-    if second == before {
-        return c;
-    }
-    if c.begun < 2 {
-        return Clock {
-            second,
-            begun: c.begun + 1,
-            is_on: true,
-            is_shown: false,
-        };
-    }
-    let _ = eprint!(rt; "\rvolume: {problems} problems");
-    Clock {
-        second,
-        begun: 2,
-        is_on: true,
-        is_shown: true,
-    }
-}
-
-// The sign goes.
-pub(super) fn stop(stderr: &impl Eprint, c: Clock) {
-    if c.is_shown {
-        let _ = eprint!(stderr; "\r\x1b[K");
-    }
 }

@@ -17,7 +17,7 @@ mod file; // file.rt: the file that is read
 mod lines; // lines.rt: the lines of a volume, written
 mod make; // make.rt: old lines tested, and their volume written
 mod show; // show.rt: one problem
-mod sink; // sink.rt: the file that is written
+mod sink; // sink.rt: what is written
 mod table; // table.rt: a volume's head and table of contents
 
 use std::env::FillError;
@@ -26,13 +26,21 @@ use std::rt::{Env, Files};
 use std::{fs, time};
 
 // What is asked.
-#[derive(Drop)]
+#[derive(Clone, Copy)]
 enum Task {
     Make,
     Lines,
     Show,
     Check,
     Nothing,
+}
+
+// The words behind the verb: the name of the file that is read, that of the file that is written or a number, and the name of a file until it is whole.
+#[derive(Clone, Copy)]
+pub struct Names<'a> {
+    input: &'a [u8],
+    other: &'a [u8],
+    part: &'a [u8],
 }
 
 fn main(rt: HostRuntime) {
@@ -47,27 +55,19 @@ fn main(rt: HostRuntime) {
     let b = argument(&rt, 3, &mut second);
     let c = argument(&rt, 4, &mut third);
     let task = task_of(&verb[..v], words(&rt));
-    let stderr = rt.stderr();
-    run(
-        &rt,
-        &stderr,
-        task,
-        &first[..a],
-        &second[..b],
-        &third[..c],
-        &mut chunk,
-        &mut out,
-    );
+    let names = Names {
+        input: &first[..a],
+        other: &second[..b],
+        part: &third[..c],
+    };
+    run(&rt, &rt.stderr(), task, names, &mut chunk, &mut out);
 }
 
 // How many bytes of an argument are in `buffer`: none of one that is missing or longer.
 fn argument(env: &impl Env, i: usize, buffer: &mut [u8; 4096]) -> usize
     ensures { result ≤ 4096 }
 {
-    match env.arg(i, buffer) {
-        Ok(n) => n,
-        Err(_) => 0,
-    }
+    env.arg(i, buffer).unwrap_or(0)
 }
 
 // How many words the call has, the program's name among them; no task has six.
@@ -83,67 +83,36 @@ fn words(env: &impl Env) -> usize {
 
 // The task of a verb with so many words, the program's name among them.
 fn task_of(verb: &[u8], words: usize) -> Task {
-    if (words == 5) & is_word(verb, b"make") {
-        return Task::Make;
+    match (verb, words) {
+        (b"make", 5) => Task::Make,
+        (b"lines", 5) => Task::Lines,
+        (b"show", 4) => Task::Show,
+        (b"check", 3) => Task::Check,
+        _ => Task::Nothing,
     }
-    if (words == 5) & is_word(verb, b"lines") {
-        return Task::Lines;
-    }
-    if (words == 4) & is_word(verb, b"show") {
-        return Task::Show;
-    }
-    if (words == 3) & is_word(verb, b"check") {
-        return Task::Check;
-    }
-    Task::Nothing
-}
-
-fn is_word(a: &[u8], b: &[u8]) -> bool {
-    if a.len() != b.len() {
-        return false;
-    }
-    let mut i = 0;
-    while i < a.len() {
-        if a[i] != b[i] {
-            return false;
-        }
-        i += 1;
-    }
-    true
 }
 
 fn run(
     rt: &(impl Files<File = fs::File> + time::Clock + Print + Eprint),
     stderr: &(impl Print + IsTerminal),
     task: Task,
-    input: &[u8],
-    other: &[u8],
-    part: &[u8],
+    names: Names,
     chunk: &mut [u8; 65536],
     out: &mut [u8; 65536],
 ) {
     let on_terminal = stderr.is_terminal();
-    match task {
-        Task::Make => {
-            let a = convert::convert(rt, on_terminal, false, input, other, part, chunk, out);
-            answers::tell(rt, stderr, a, true, input, other, out);
-        }
-        Task::Lines => {
-            let a = convert::convert(rt, on_terminal, true, input, other, part, chunk, out);
-            answers::tell(rt, stderr, a, false, input, other, out);
-        }
-        Task::Show => {
-            let a = show::show(rt, input, other, chunk, out);
-            answers::tell(rt, stderr, a, false, input, other, out);
-        }
-        Task::Check => {
-            let a = check::check(rt, on_terminal, input, chunk, out);
-            answers::tell(rt, stderr, a, false, input, other, out);
-        }
+    let answer = match task {
+        Task::Make => convert::convert(rt, on_terminal, false, names, chunk, out),
+        Task::Lines => convert::convert(rt, on_terminal, true, names, chunk, out),
+        Task::Show => show::show(rt, names.input, names.other, chunk, out),
+        Task::Check => check::check(rt, on_terminal, names.input, chunk, out),
         Task::Nothing => {
             let _ = eprintln!(rt;
                 "volume: make LINES VOLUME PART, lines VOLUME LINES PART, show VOLUME N or check VOLUME"
             );
+            return;
         }
-    }
+    };
+    let of_lines = matches!(task, Task::Make);
+    answers::tell(rt, stderr, answer, of_lines, names, out);
 }

@@ -1,12 +1,11 @@
 // Old lines to a volume.
 ghost use Rattle.std.specs.Prelude.{◌≤◌, length};
 
-use super::answers::Answer;
-use super::bodies::Passed;
+use super::answers::Fault;
+use super::bodies;
 use super::clock::Clock;
 use super::file::File;
-use super::sink::{Poured, Sink};
-use super::{bodies, clock, file, sink};
+use super::sink::Sink;
 use laws::Edition;
 use std::io::Write;
 use std::time;
@@ -15,144 +14,120 @@ use volume_lines::Named;
 
 // The first pass: 14 over all lines, then 17, then 1 to 6. Where no line in form starts a chunk, what does is out of form, too long or without its newline.
 pub(super) fn survey(
-    rt: &(impl time::Clock + Eprint),
     f: &File,
     chunk: &mut [u8; 65536],
-    start: Clock,
-) -> Passed {
-    let mut clock = start;
-    let file = &f.file;
-    let size = f.size;
+    clock: &mut Clock<impl time::Clock + Eprint>,
+) -> Result<u16, Fault> {
     let mut named = volume_lines::inner::unrefused();
     let mut count = 0;
     let mut at = 0;
-    while at < size {
-        let n = file::least(size - at, 65536);
-        if !file::fill(file, at, chunk, n) {
-            return bodies::pass(file::lacking(f), clock);
-        }
-        let text: &[u8] = chunk;
-        let s = volume_lines::inner::survey(&text[..n], count, named);
-        let past = s.at;
+    // No `for`: the next chunk begins behind the last line that this one has whole.
+    while at < f.size {
+        let n = (f.size - at).min(65536);
+        f.fill(at, chunk, n)?;
+        let s = volume_lines::inner::survey(&chunk[..n], count, named);
         count = s.count;
-        if past == 0 {
-            return bodies::pass(Answer::Refused(Why::Line(count + 1)), clock);
+        if s.at == 0 {
+            return Err(Fault::Refused(Why::Line(count + 1)));
         }
         named = s.named;
-        at += past;
-        clock = clock::tick(rt, clock, count);
+        at += s.at;
+        clock.tick(count);
     }
-    bodies::pass(verdict(count, named), clock)
+    verdict(count, named)
 }
 
-fn verdict(count: usize, named: Named) -> Answer {
+fn verdict(count: usize, named: Named) -> Result<u16, Fault> {
     if count > 65535 {
-        return Answer::Refused(Why::Contents(Flaw::Many, 65536));
+        return Err(Fault::Refused(Why::Contents(Flaw::Many, 65536)));
     }
-    let v = named.verdict;
-    match v {
-        Err(r) => Answer::Refused(Why::Board(r, named.line)),
-        Ok(()) => Answer::Problems(count as u16),
+    match named.verdict {
+        Err(r) => Err(Fault::Refused(Why::Board(r, named.line))),
+        Ok(()) => Ok(count as u16),
     }
 }
 
 // The second pass: the head, the rows and the bodies.
-pub(super) fn put_all<W: Write + Drop>(
-    rt: &(impl time::Clock + Eprint),
+pub(super) fn put_all<W: Write>(
     f: &File,
     n: u16,
     chunk: &mut [u8; 65536],
-    out: &mut [u8; 65536],
-    before: Sink<W>,
-    start: Clock,
-) -> Poured<W>
-    requires { before.len ≤ 65536 }
-    ensures { result.sink.len ≤ 65536 }
+    sink: &mut Sink<W>,
+    clock: &mut Clock<impl time::Clock + Eprint>,
+) -> Result<(), Fault>
+    requires { sink.old.len ≤ 65536 }
+    ensures { sink.new.len ≤ 65536 }
 {
-    let t = put_table(out, before, n as usize);
-    put_bodies(rt, f, n, chunk, out, t, start)
+    put_table(sink, n as usize);
+    put_bodies(f, n, chunk, sink, clock)
 }
 
-fn put_table<W: Write>(out: &mut [u8; 65536], before: Sink<W>, n: usize) -> Sink<W>
-    requires { (before.len ≤ 65536) × (n ≤ 65535) }
-    ensures { result.len ≤ 65536 }
+fn put_table<W: Write>(sink: &mut Sink<W>, n: usize)
+    requires { (sink.old.len ≤ 65536) × (n ≤ 65535) }
+    ensures { sink.new.len ≤ 65536 }
 {
-    let mut s = sink::put_line(out, before, volume_contents::inner::head_of(n));
-    let mut i = 0;
-    while i < n {
+    sink.put_line(volume_contents::inner::head_of(n));
+    for i in 0..n {
         let row = volume_contents::inner::row_of(i + 1, Edition::A, 6 + 8 * n + 34 * i);
-        s = sink::put_line(out, s, row);
-        i += 1;
+        sink.put_line(row);
     }
-    s
 }
 
 // The lines are read again, and have to be what they were.
-fn put_bodies<W: Write + Drop>(
-    rt: &(impl time::Clock + Eprint),
+fn put_bodies<W: Write>(
     f: &File,
     n: u16,
     chunk: &mut [u8; 65536],
-    out: &mut [u8; 65536],
-    before: Sink<W>,
-    start: Clock,
-) -> Poured<W>
-    requires { before.len ≤ 65536 }
-    ensures { result.sink.len ≤ 65536 }
+    sink: &mut Sink<W>,
+    clock: &mut Clock<impl time::Clock + Eprint>,
+) -> Result<(), Fault>
+    requires { sink.old.len ≤ 65536 }
+    ensures { sink.new.len ≤ 65536 }
 {
-    let mut sink = before;
-    let mut clock = start;
-    let file = &f.file;
-    let size = f.size;
     let mut count = 0;
     let mut at = 0;
-    while at < size {
-        let len = file::least(size - at, 65536);
-        if !file::fill(file, at, chunk, len) {
-            return sink::pour(file::lacking(f), sink, clock);
-        }
-        let text: &[u8] = chunk;
-        let t = put_some(&text[..len], out, sink);
-        let past = t.at;
-        sink = t.sink;
-        if past == 0 {
-            return sink::pour(Answer::Changed, sink, clock);
+    // No `for`: the next chunk begins behind the last line that this one has whole.
+    while at < f.size {
+        let len = (f.size - at).min(65536);
+        f.fill(at, chunk, len)?;
+        let t = put_some(&chunk[..len], sink);
+        if t.at == 0 {
+            return Err(Fault::Changed);
         }
         count += t.count;
-        at += past;
-        clock = clock::tick(rt, clock, count);
+        at += t.at;
+        clock.tick(count);
     }
-    sink::pour(file::same_as(f, n, count), sink, clock)
+    f.same(n, count)
 }
 
 // Lines whose bodies are written: the place behind them, and how many.
-#[derive(Drop)]
-struct Taken<W> {
+#[derive(Clone, Copy)]
+struct Taken {
     at: usize,
     count: usize,
-    sink: Sink<W>,
 }
 
 // The lines that end in `t`, up to the first that is refused.
-fn put_some<W: Write>(t: &[u8], out: &mut [u8; 65536], before: Sink<W>) -> Taken<W>
-    requires { before.len ≤ 65536 }
-    ensures { (result.at ≤ length t.now) × (result.count ≤ result.at) × (result.sink.len ≤ 65536) }
+fn put_some<W: Write>(t: &[u8], sink: &mut Sink<W>) -> Taken
+    requires { sink.old.len ≤ 65536 }
+    ensures { (result.at ≤ length t.now) × (result.count ≤ result.at) × (sink.new.len ≤ 65536) }
 {
-    let mut sink = before;
     let mut count = 0;
     let mut at = 0;
+    // No `for`: `at` goes from line to line.
     while at < t.len() {
         let stop = chunks::inner::find(t, at, t.len());
         if stop == t.len() {
-            return Taken { at, count, sink };
+            break;
         }
         let raw = position_text::inner::read_raw(&t[at..stop], Edition::A);
         if !bodies::is_sound(raw) {
-            return Taken { at, count, sink };
+            break;
         }
-        sink = sink::put_line(out, sink, volume_body::inner::body_of(raw.position));
+        sink.put_line(volume_body::inner::body_of(raw.position));
         count += 1;
         at = stop + 1;
     }
-    Taken { at, count, sink }
+    Taken { at, count }
 }

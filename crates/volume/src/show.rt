@@ -1,22 +1,12 @@
 // One problem of a volume, found by its number.
-ghost use Rattle.std.specs.Prelude.{◌≤◌};
-
-use super::answers::Answer;
-use super::bodies::Judged;
-use super::file::{File, Opened};
+use super::answers::{Answer, Fault};
+use super::file::File;
 use super::sink::Sink;
-use super::{answers, bodies, file, sink, table};
+use super::table::Found;
+use super::{answers, bodies, table};
 use laws::{Edition, Position};
-use std::io::Printer;
+use std::fs;
 use std::rt::Files;
-use std::{fs, io};
-
-// A number in decimal digits.
-#[derive(Drop)]
-enum Parsed {
-    Number(usize),
-    Nothing,
-}
 
 pub(super) fn show(
     rt: &(impl Files<File = fs::File> + Print + Eprint),
@@ -24,113 +14,57 @@ pub(super) fn show(
     name: &[u8],
     chunk: &mut [u8; 65536],
     out: &mut [u8; 65536],
-) -> Answer {
-    let p = parse(name);
-    match p {
-        Parsed::Nothing => Answer::NoNumber,
-        Parsed::Number(number) => {
-            let o = file::open(rt, input);
-            match o {
-                Opened::Unread => Answer::Unread,
-                Opened::Open(f) => look_up(rt, &f, number, chunk, out),
-            }
-        }
-    }
+) -> Result<Answer, Fault> {
+    let number = parse(name).ok_or(Fault::NoNumber)?;
+    let f = File::open(rt, input).ok_or(Fault::Unread)?;
+    let n = table::head(&f, chunk)?;
+    let Some(found) = table::walk(&f, n, false, number, chunk)? else {
+        return Ok(Answer::Absent);
+    };
+    show_row(rt, &f, n, found, chunk, out)?;
+    Ok(Answer::Shown)
 }
 
-// A number above 65,535, which no row has, is as good as 65,536.
-fn parse(name: &[u8]) -> Parsed {
+// A number in decimal digits. One above 65,535, which no row has, is as good as 65,536.
+fn parse(name: &[u8]) -> Option<usize> {
+    if name.is_empty() {
+        return None;
+    }
     let mut n = 0;
-    let mut i = 0;
-    while i < name.len() {
-        let b = name[i];
-        if b < b'0' {
-            return Parsed::Nothing;
+    for b in name {
+        if !b.is_ascii_digit() {
+            return None;
         }
-        if b > b'9' {
-            return Parsed::Nothing;
-        }
-        n = file::least(10 * n + (b - b'0') as usize, 65536);
-        i += 1;
+        n = (10 * n + (*b - b'0') as usize).min(65536);
     }
-    if i == 0 {
-        return Parsed::Nothing;
-    }
-    Parsed::Number(n)
+    Some(n)
 }
 
-// 17 over the whole table, then whether a row has the number.
-fn look_up(
-    rt: &(impl Print + Eprint),
-    f: &File,
-    number: usize,
-    chunk: &mut [u8; 65536],
-    out: &mut [u8; 65536],
-) -> Answer {
-    let h = table::head(f, chunk);
-    match h {
-        Answer::Problems(n) => {
-            let t = table::walk(f, n, false, number, chunk);
-            let a = t.answer;
-            let found = t.found;
-            match a {
-                Answer::Problems(_) => show_row(rt, f, n, found.row, found.edition, chunk, out),
-                _ => a,
-            }
-        }
-        _ => h,
-    }
-}
-
-// 18 and 1 to 6 of the body of a row, counted from 1.
+// 18 and 1 to 6 of the body of a row.
 fn show_row(
     rt: &(impl Print + Eprint),
     f: &File,
     n: u16,
-    row: u16,
-    edition: u8,
+    found: Found,
     chunk: &mut [u8; 65536],
     out: &mut [u8; 65536],
-) -> Answer {
-    if row == 0 {
-        return Answer::Absent;
-    }
-    let file = &f.file;
-    let i = row as usize - 1;
-    if !file::fill(file, 6 + 8 * (n as usize) + 34 * i, chunk, 34) {
-        return file::lacking(f);
-    }
-    let edition = volume_contents::inner::edition_of(edition);
-    let bytes: &[u8] = chunk;
-    let raw = volume_body::inner::read_body(&bytes[..34], edition);
-    let j = bodies::judge(raw, row as usize);
-    match j {
-        Judged::Refused(w) => Answer::Refused(w),
-        Judged::Accepted => {
-            let position = raw.position;
-            print(rt, edition, position, out);
-            Answer::Shown
-        }
-    }
+) -> Result<(), Fault> {
+    let row = found.row as usize;
+    f.fill(6 + 8 * (n as usize) + 34 * row, chunk, 34)?;
+    let edition = volume_contents::inner::edition_of(found.edition);
+    let raw = volume_body::inner::read_body(&chunk[..34], edition);
+    bodies::judge(raw, row + 1)?;
+    print(rt, edition, raw.position, out);
+    Ok(())
 }
 
 fn print(rt: &(impl Print + Eprint), edition: Edition, position: Position, out: &mut [u8; 65536]) {
-    let a = put_edition(rt, out, edition);
-    let b = sink::put_line(out, a, position_text::inner::line_of(position));
-    let c = sink::put(out, b, b"\n");
-    answers::say(rt, out, c);
-}
-
-fn put_edition<'a, P: Print>(
-    stdout: &'a P,
-    out: &mut [u8; 65536],
-    edition: Edition,
-) -> Sink<Printer<'a, P>>
-    ensures { result.len ≤ 65536 }
-{
-    let s = sink::open(io::writer(stdout));
+    let mut s = Sink::to_output(rt, out);
     match edition {
-        Edition::A => sink::put(out, s, b"A "),
-        Edition::B => sink::put(out, s, b"B "),
+        Edition::A => s.put(b"A "),
+        Edition::B => s.put(b"B "),
     }
+    s.put_line(position_text::inner::line_of(position));
+    s.put(b"\n");
+    answers::say(rt, &mut s);
 }

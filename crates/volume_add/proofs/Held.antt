@@ -14,7 +14,7 @@ use Rattle.laws.specs.Boards.{Clean}
 use Rattle.accept.specs.Verdicts.{judged_of}
 use Rattle.position_text.specs.Form.{StateFits}
 use Rattle.volume_contents.specs.declared.Flaw.TheVariants.{Number, Order}
-use Rattle.volume_contents.specs.declared.Tested.TheVariants.{Sound}
+use Rattle.std.specs.Prelude.{Ok}
 use Rattle.volume_contents.specs.Contents.{number_before}
 use Rattle.volume_contents.proofs.Sound.{passes, row_of_lem}
 use Rattle.volume_make.specs.Volumes.{Problem}
@@ -26,11 +26,11 @@ use Rattle.volume_add.specs.Adding.{number_tested, with}
 use Rattle.refusal.specs.Refusals.{nothing_refused}
 
 -- a number that passes
-pub number_passes : (last k : ℕ) → number_tested last k ≡ Sound → (last < k) × (k ≤ 65535)
+pub number_passes : (last k : ℕ) → number_tested last k ≡ Ok tt → (last < k) × (k ≤ 65535)
 unfolding number_tested
 number_passes last k e =
     let a = passes (ltb 0 k and leb k 65535) Number _ e in
-    let b = passes (ltb last k) Order Sound a.1 in
+    let b = passes (ltb last k) Order (Ok tt) a.1 in
     (ltb-true last k b.0, leb-true k 65535 (right _ _ a.0))
 
 boards_added : (v : List ℕ) (i : ℕ) (ps : List Position) (x : Problem) → boards_of (problems_from v i ps ++ (x ∷ [])) ≡ ps ++ (x.board ∷ [])
@@ -79,7 +79,7 @@ module _ (v : List ℕ) (n : ℕ) (ps : List Position) (bytes : Bytes v) (w : Wh
         (subst (λ (k : ℕ). Whole false (with v ps x.number x.board) k (boards_of xs)) l m)
 
 -- a board of clean men, whose square is of the board if one is named, is found in the volume that it was added to
-pub held : (v : List ℕ) (n : ℕ) (ps : List Position) (k : ℕ) (p : Position) → Bytes v → Whole false v n ps → number_tested (number_before v n) k ≡ Sound → judged_of p ≡ nothing_refused
+pub held : (v : List ℕ) (n : ℕ) (ps : List Position) (k : ℕ) (p : Position) → Bytes v → Whole false v n ps → number_tested (number_before v n) k ≡ Ok tt → judged_of p ≡ nothing_refused
     → Clean p.pieces p.colors → StateFits p.passant → Whole false (with v ps k p) (n + 1) (ps ++ (p ∷ []))
 held v n ps k p b w t j c s =
     let a = number_passes (number_before v n) k t in

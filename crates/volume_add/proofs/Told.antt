@@ -7,8 +7,8 @@ use native.Mathlib.Omega.{arith}
 use lib.ListN.{drop}
 use Rattle.laws.specs.declared.Position.{Position}
 use Rattle.volume_contents.specs.declared.Why.TheVariants.{Room}
-use Rattle.volume_contents.specs.declared.Written.{Written}
-use Rattle.volume_contents.specs.declared.Written.TheVariants.{Count, Refused}
+use Rattle.volume_contents.specs.Refusing.{Written}
+use Rattle.volume_contents.proofs.Answered.{count_same, why_same}
 use Rattle.volume_read.specs.Reading.{Whole}
 use Rattle.volume_add.specs.Adding.{Adds, misnumbered, unjudged, narrow, added}
 use Rattle.volume_add.specs.inner.Longer.{AddsTo, misnumbered as to_misnumbered, unjudged as to_unjudged, narrow as to_narrow, added as to_added}
@@ -19,7 +19,7 @@ told v n ps w k p o r x (to_misnumbered f t e d) = misnumbered n ps f w t e d
 told v n ps w k p o r x (to_unjudged f t j e d) = unjudged n ps f w t j e d
 told v n ps w k p o r x (to_narrow t j h e d) =
     let z = with_length v n ps w k p in
-    narrow n ps w t j (omega arith) (e ∙ ap (λ (i : ℕ). Refused (Room i)) (sym z)) d
+    narrow n ps w t j (omega arith) (e ∙ why_same (ap Room (sym z))) d
 told v n ps w k p o r x (to_added t j h e d) =
     let z = with_length v n ps w k p in
-    added n ps w t j (omega arith) (e ∙ ap Count (sym z)) (d ∙ (λ i. longer_with v n ps w k p i ++ drop (sym z i) o))
+    added n ps w t j (omega arith) (e ∙ count_same (sym z)) (d ∙ (λ i. longer_with v n ps w k p i ++ drop (sym z i) o))

@@ -7,7 +7,7 @@ ghost use Rattle.volume_add.specs.Adding.{number_tested};
 ghost use Rattle.volume_add.specs.inner.Longer.{carried, longer, AddsTo};
 
 use laws::Position;
-use volume_contents::{Flaw, Tested, Why, Written};
+use volume_contents::{Flaw, Why};
 use volume_make::inner::put;
 
 // The number of the last of n rows, 0 where there is none.
@@ -23,16 +23,16 @@ fn last(v: &[u8], n: usize) -> usize
 }
 
 // The tests of a new number behind the last one.
-fn test_number(last: usize, k: usize) -> Tested
+fn test_number(last: usize, k: usize) -> Result<(), Flaw>
     ensures { result ≡ number_tested last k }
 {
     if (0 < k) & (k <= 65535) {
         if last < k {
-            return Tested::Sound;
+            return Ok(());
         }
-        return Tested::Flawed(Flaw::Order);
+        return Err(Flaw::Order);
     }
-    Tested::Flawed(Flaw::Number)
+    Err(Flaw::Number)
 }
 
 // The n rows of a volume that becomes one problem longer.
@@ -40,8 +40,7 @@ fn put_rows(v: &[u8], out: &mut [u8], n: usize)
     requires { (n < 65536) × (6 + 8 * n ≤ length out.old) }
     ensures { out.new ≡ take 6 out.old ++ joined (carried v.now n) n ++ drop (6 + 8 * n) out.old }
 {
-    let mut i = 0;
-    while i < n {
+    for i in 0..n {
         let row = volume_contents::inner::entry(v, 6 + 8 * i);
         let edition = volume_contents::inner::edition_of(row.edition);
         put(
@@ -49,7 +48,6 @@ fn put_rows(v: &[u8], out: &mut [u8], n: usize)
             6 + 8 * i,
             volume_contents::inner::row_of(row.number, edition, 14 + 8 * n + 34 * i),
         );
-        i += 1;
     }
 }
 
@@ -72,26 +70,29 @@ fn write(v: &[u8], n: usize, number: usize, board: Position, out: &mut [u8])
 }
 
 // The volume as it is has passed: 17 for the number, 1 to 6 for the board, 13.
-pub fn add_to(v: &[u8], n: usize, number: usize, board: Position, out: &mut [u8]) -> Written
+pub fn add_to(
+    v: &[u8],
+    n: usize,
+    number: usize,
+    board: Position,
+    out: &mut [u8],
+) -> Result<usize, Why>
     requires { (n < 65536) × (length v.now ≡ size_of n) }
     ensures { AddsTo v.now n number board out.old result out.new }
 {
-    let t = test_number(last(v, n), number);
-    match t {
-        Tested::Flawed(w) => Written::Refused(Why::Contents(w, n + 1)),
-        Tested::Sound => {
-            let j = accept::inner::judge(board);
-            match j {
-                Err(w) => Written::Refused(Why::Board(w, n + 1)),
-                Ok(()) => {
-                    let need = 48 + 42 * n;
-                    if out.len() < need {
-                        return Written::Refused(Why::Room(need));
-                    }
-                    write(v, n, number, board, out);
-                    Written::Count(need)
-                }
+    if let Err(flaw) = test_number(last(v, n), number) {
+        return Err(Why::Contents(flaw, n + 1));
+    }
+    let j = accept::inner::judge(board);
+    match j {
+        Err(w) => Err(Why::Board(w, n + 1)),
+        Ok(()) => {
+            let need = 48 + 42 * n;
+            if out.len() < need {
+                return Err(Why::Room(need));
             }
+            write(v, n, number, board, out);
+            Ok(need)
         }
     }
 }

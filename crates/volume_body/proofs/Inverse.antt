@@ -6,8 +6,8 @@ use mathlib.Core.Logic.{⊎_elim}
 use Prim.Native.Nat.{ℕ, zero, suc, ◌+◌, ◌*◌, ◌/◌, ◌%◌, ◌≤◌, ◌<◌}
 use native.Mathlib.Omega.{arith}
 use lib.Dec.{eqb, ltb}
-use lib.ListN.{length, get_or, set, get_or-append}
-use lib.Seq.{get_or_at, get_or-append-add, get_or-set_same, get_or-set_other}
+use lib.ListN.{length, get_or, get_or-append}
+use lib.Seq.{get_or_at, get_or-append-add}
 use borrow.Author.Tests.{ltb-true, ltb-false, le-ltb, eqb-true, eqb-false}
 use Rattle.squares.specs.Tests.{◌and◌}
 use Rattle.geometry.specs.declared.Color.{Color}
@@ -216,19 +216,6 @@ numbers_men t l n = fun_ext λ k. go k (ltb k 64) refl
     go : (k : ℕ) (x : Bool) → ltb k 64 ≡ x → cond x (man_by_number (get_or l (place_of k) 0)) empty ≡ cond x (man_by_number (half_at t (place_of k))) empty
     go k true e = ap man_by_number (n (place_of k) (place_lt k (ltb-true k 64 e)))
     go k false e = refl
-
--- one number more
-pub numbers_more : (t l : List ℕ) (p b : ℕ) → p < length l → ((k : ℕ) → k < p → get_or l k 0 ≡ half_at t k) → b ≡ half_at t p
-    → (k : ℕ) → k < p + 1 → get_or (set l p b) k 0 ≡ half_at t k
-numbers_more t l p b h n e k j = ⊎_elim before last (order k p)
-  where
-    before : k < p → get_or (set l p b) k 0 ≡ half_at t k
-    before q = get_or-set_other l p k b 0 (λ z. omega arith) ∙ n k q
-
-    last : p ≤ k → get_or (set l p b) k 0 ≡ half_at t k
-    last q =
-        let z : p ≡ k = omega arith in
-        ap (λ (i : ℕ). get_or (set l p b) i 0) (sym z) ∙ get_or-set_same l p b 0 h ∙ e ∙ ap (half_at t) z
 
 -- what the reader answers: r is what was read, l its body, b whether that is t
 module _ (v : Edition) (t : List ℕ) (r : Raw) (l : List ℕ) (b : Bool) (e : r ≡ read_of v t) (p : l ≡ bodied r.position) (h : SameAs l t b) where

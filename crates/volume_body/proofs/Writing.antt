@@ -14,7 +14,7 @@ use Rattle.men_field.specs.inner.Lines.{Added, Holds}
 use Rattle.men_field.proofs.Adding.{holds_none, holds_more}
 use Rattle.volume_body.specs.Layout.{pair_at, men_bytes, head_byte, state_byte, body_of}
 
--- the bytes of the men: none yet, one more, and all
+-- the bytes of the men: none yet, and one more
 pub pairs_length : (m : Men) (n : ℕ) → length (men_bytes m n) ≡ n
 unfolding men_bytes
 pairs_length m zero = refl
@@ -30,9 +30,6 @@ pairs_len m n h = h.len ∙ pairs_length m n
 pub pairs_more : (m : Men) (n b : ℕ) {l r : Line} → Holds l (men_bytes m n) → b ≡ pair_at m n → Added l (b ∷ []) r → Holds r (men_bytes m (n + 1))
 unfolding men_bytes
 pairs_more m n b h e a = rw (add-one n, ← e) (holds_more h a)
-
-pub pairs_done : (m : Men) (n : ℕ) {l : Line} → n ≡ 32 → Holds l (men_bytes m n) → Holds l (men_bytes m 32)
-pairs_done m n e h = rw e at h
 
 module _ (m : Men) (c : Color) (w b : CastleRights) (e : EnPassantFlag) where
   pub body_length : length (body_of m c w b e) ≡ 34

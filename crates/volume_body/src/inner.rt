@@ -35,10 +35,8 @@ fn put_pairs(p: Position) -> Line
         bytes: [0; 81],
         len: 0,
     };
-    let mut j = 0u8;
-    while j < 32 {
+    for j in 0..32 {
         line = push(line, pair(p, j));
-        j += 1;
     }
     line
 }
@@ -102,10 +100,8 @@ fn numbers(t: &[u8]) -> [u8; 64]
     ensures { NumbersOf t.now result }
 {
     let mut men = [0u8; 64];
-    let mut p = 0usize;
-    while p < 64 {
-        men[p] = half(t[p / 2], p);
-        p += 1;
+    for (p, man) in men.iter_mut().enumerate() {
+        *man = half(t[p / 2], p);
     }
     men
 }

@@ -1,18 +1,27 @@
--- The tests of a row, each put before those behind it, are all of them in order.
-use mathlib.Core.Path.{◌≡◌, ◌∙◌, ap}
-use mathlib.Core.Bool.{Bool}
+-- Tests one behind the other: one that fails ends them, and one that passes leaves the others.
+use mathlib.Core.Path.{◌≡◌}
+use mathlib.Core.Bool.{Bool, true, false}
+use mathlib.Core.List.{List}
 use Prim.Native.Nat.{ℕ}
-use Rattle.volume_contents.specs.declared.Entry.{Entry}
-use Rattle.volume_contents.specs.declared.Flaw.TheVariants.{Number, Edition, Length, Order, Outside, Overlap, Gap, Place, EditionB}
-use Rattle.volume_contents.specs.declared.Tested.{Tested}
-use Rattle.volume_contents.specs.declared.Tested.TheVariants.{Sound}
-use Rattle.volume_contents.specs.Contents.{unless, numbered, editioned, long, rises, inside, apart, close, its_place, of_a, row_tested}
+use lib.Dec.{eqb}
+use lib.ListN.{get_or}
+use Rattle.std.specs.Prelude.{Ok, Err}
+use Rattle.squares.specs.Tests.{◌and◌}
+use Rattle.volume_contents.specs.declared.Flaw.{Flaw}
+use Rattle.volume_contents.specs.declared.Flaw.TheVariants.{Mark, Version, Size}
+use Rattle.volume_contents.specs.Layout.{size_of}
+use Rattle.volume_contents.specs.Contents.{Tested, unless, problems, head_tested}
 
-pub chain : (back : Bool) (n i last : ℕ) (e : Entry) {s t u v w x y z r : Tested} → s ≡ unless (of_a back e) EditionB Sound
-    → t ≡ unless (its_place back i e) Place s → u ≡ unless (close n i e) Gap t → v ≡ unless (apart n i e) Overlap u
-    → w ≡ unless (inside n e) Outside v → x ≡ unless (rises last e) Order w → y ≡ unless (long e) Length x
-    → z ≡ unless (editioned e) Edition y → r ≡ unless (numbered e) Number z → r ≡ row_tested back n i last e
-unfolding row_tested
-chain back n i last e a b c d f g h k m =
-    m ∙ ap (unless (numbered e) Number) (k ∙ ap (unless (editioned e) Edition) (h ∙ ap (unless (long e) Length) (g ∙ ap (unless (rises last e) Order)
-    (f ∙ ap (unless (inside n e) Outside) (d ∙ ap (unless (apart n i e) Overlap) (c ∙ ap (unless (close n i e) Gap) (b ∙ ap (unless (its_place back i e) Place) a)))))))
+pub fails : (p : Bool) (w f : Flaw) (t : Tested) → ◌≡◌ {A = Tested} (Err f) (unless p w (Ok tt)) → ◌≡◌ {A = Tested} (Err f) (unless p w t)
+fails true w f t e = cc
+fails false w f t e = e
+
+pub passed : (p : Bool) (w : Flaw) (t : Tested) {r : Tested} {u : Unit {0}} → ◌≡◌ {A = Tested} (Ok u) (unless p w (Ok tt)) → r ≡ t → r ≡ unless p w t
+passed true w t e q = q
+passed false w t e q = cc
+
+-- the tests of a head, at bytes that were read
+pub head_so : (v : List ℕ) (size : ℕ) {a b c d n : ℕ} → a ≡ get_or v 0 0 → b ≡ get_or v 1 0 → c ≡ get_or v 2 0 → d ≡ get_or v 3 0 → n ≡ problems v
+    → unless (eqb a 86 and eqb b 79 and eqb c 76) Mark (unless (eqb d 1) Version (unless (eqb size (size_of n)) Size (Ok tt))) ≡ head_tested v size
+unfolding head_tested
+head_so v size a b c d n = λ i. unless (eqb (a i) 86 and eqb (b i) 79 and eqb (c i) 76) Mark (unless (eqb (d i) 1) Version (unless (eqb size (size_of (n i))) Size (Ok tt)))

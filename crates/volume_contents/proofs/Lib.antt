@@ -3,3 +3,4 @@ pub mod Chain
 pub mod Walking
 pub mod Sound
 pub mod Unique
+pub mod Answered

@@ -12,16 +12,15 @@ use Rattle.squares.proofs.Testing.{order, left, right, either, implied}
 use Rattle.volume_contents.specs.declared.Entry.{Entry}
 use Rattle.volume_contents.specs.declared.Flaw.{Flaw}
 use Rattle.volume_contents.specs.declared.Flaw.TheVariants.{Mark, Version, Size, Number, Edition, Length, Order, Outside, Overlap, Gap, Place, EditionB}
-use Rattle.volume_contents.specs.declared.Tested.{Tested}
-use Rattle.volume_contents.specs.declared.Tested.TheVariants.{Sound, Flawed}
+use Rattle.std.specs.Prelude.{Ok, Err}
 use Rattle.volume_contents.specs.Layout.{body_place, size_of}
-use Rattle.volume_contents.specs.Contents.{unless, marked, problems, head_tested, numbered, editioned, long, rises, inside, apart, close, its_place, of_a, row_tested, row_at, number_before, Table}
+use Rattle.volume_contents.specs.Contents.{Tested, unless, marked, problems, head_tested, numbered, editioned, long, rises, inside, apart, close, its_place, of_a, row_tested, row_at, number_before, Table}
 
-pub sound_not : (w : Flaw) → Flawed w ≡ Sound → ⊥
-sound_not w e = absurd (let z : ◌≡◌ {A = ℕ} 0 1 = cc in omega arith)
+pub sound_not : (w : Flaw) → ◌≡◌ {A = Tested} (Err w) (Ok tt) → ⊥
+sound_not w e = cc
 
 -- the first test passes, and so do those behind it
-pub passes : (b : Bool) (w : Flaw) (t : Tested) → unless b w t ≡ Sound → (b ≡ true) × (t ≡ Sound)
+pub passes : (b : Bool) (w : Flaw) (t : Tested) → unless b w t ≡ Ok tt → (b ≡ true) × (t ≡ Ok tt)
 passes true w t e = (refl, e)
 passes false w t e = absurd (sound_not w e)
 
@@ -32,12 +31,12 @@ pub record Head (v : List ℕ) (size : ℕ) : Type 0 where
   pub version_is : get_or v 3 0 ≡ 1
   pub size_is : size ≡ size_of (problems v)
 
-pub sound_head : (v : List ℕ) (size : ℕ) → head_tested v size ≡ Sound → Head v size
+pub sound_head : (v : List ℕ) (size : ℕ) → head_tested v size ≡ Ok tt → Head v size
 unfolding head_tested
 sound_head v size e =
     let a = passes (marked v) Mark _ e in
     let b = passes (eqb (get_or v 3 0) 1) Version _ a.1 in
-    let c = passes (eqb size (size_of (problems v))) Size Sound b.1 in
+    let c = passes (eqb size (size_of (problems v))) Size (Ok tt) b.1 in
     record {
       v_is = eqb-true _ _ (left _ _ (left _ _ a.0));
       o_is = eqb-true _ _ (right _ _ (left _ _ a.0));
@@ -53,7 +52,7 @@ pub record Row (n i last : ℕ) (e : Entry) : Type 0 where
   pub rising : last < e.number
   pub place_is : e.place ≡ body_place n i
 
-module _ (back : Bool) (n i last : ℕ) (e : Entry) (s : row_tested back n i last e ≡ Sound) where
+module _ (back : Bool) (n i last : ℕ) (e : Entry) (s : row_tested back n i last e ≡ Ok tt) where
   all : (numbered e ≡ true) × (editioned e ≡ true) × (long e ≡ true) × (rises last e ≡ true) × (apart n i e ≡ true) × (close n i e ≡ true) × (its_place back i e ≡ true) × (of_a back e ≡ true)
   unfolding row_tested
   all =
@@ -65,7 +64,7 @@ module _ (back : Bool) (n i last : ℕ) (e : Entry) (s : row_tested back n i las
       let g = passes (apart n i e) Overlap _ f.1 in
       let h = passes (close n i e) Gap _ g.1 in
       let j = passes (its_place back i e) Place _ h.1 in
-      let k = passes (of_a back e) EditionB Sound j.1 in
+      let k = passes (of_a back e) EditionB (Ok tt) j.1 in
       (a.0, b.0, c.0, d.0, g.0, h.0, j.0, k.0)
 
   pub sound_row : Row n i last e

@@ -7,19 +7,18 @@ use Prim.Native.Nat.{ℕ, suc, ◌≤◌, ◌<◌}
 use native.Mathlib.Omega.{arith}
 use Rattle.squares.proofs.Testing.{order}
 use Rattle.volume_contents.specs.declared.Flaw.{Flaw}
-use Rattle.volume_contents.specs.declared.Tested.{Tested}
-use Rattle.volume_contents.specs.declared.Tested.TheVariants.{Sound, Flawed}
-use Rattle.volume_contents.specs.Contents.{problems, tested_at, Table, Spoilt, head, row}
+use Rattle.std.specs.Prelude.{Ok, Err}
+use Rattle.volume_contents.specs.Contents.{Tested, problems, tested_at, Table, Spoilt, head, row}
 use Rattle.volume_contents.proofs.Sound.{sound_not}
 
-flaw_one : (t : Tested) (w u : Flaw) → t ≡ Flawed w → t ≡ Flawed u → w ≡ u
+flaw_one : (t : Tested) (w u : Flaw) → t ≡ Err w → t ≡ Err u → w ≡ u
 flaw_one t w u p q = cc
 
-both_ways : (t : Tested) (w : Flaw) → t ≡ Flawed w → t ≡ Sound → ⊥
+both_ways : (t : Tested) (w : Flaw) → t ≡ Err w → t ≡ Ok tt → ⊥
 both_ways t w p q = sound_not w (sym p ∙ q)
 
 -- what is sound up to a row has no flaw before it
-behind : (f : ℕ → Tested) (i j : ℕ) (w : Flaw) → ((k : ℕ) → k < j → f k ≡ Sound) → f i ≡ Flawed w → j ≤ i
+behind : (f : ℕ → Tested) (i j : ℕ) (w : Flaw) → ((k : ℕ) → k < j → f k ≡ Ok tt) → f i ≡ Err w → j ≤ i
 behind f i j w s e = ⊎_elim (λ h. absurd (both_ways (f i) w e (s i h))) (λ h. h) (order i j)
 
 pub spoilt_one : (back : Bool) (v : List ℕ) (j k : ℕ) (w u : Flaw) → Spoilt back v j w → Spoilt back v k u → (j ≡ k) × (w ≡ u)

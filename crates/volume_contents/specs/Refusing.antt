@@ -1,10 +1,14 @@
 -- The numbers of refusal of a volume: "14 for an old line out of form or without its newline; 17 CONTENTS ..; then 18 BODY (a body with no such board), then
 -- 1 to 6 for that board, then 13".
-use Rattle.std.specs.Prelude.{ℕ}
+use Rattle.std.specs.Prelude.{ℕ, Result}
 use Rattle.refusal.specs.declared.Refusal.TheVariants.{Text as text, Room as room}
 use Rattle.refusal.specs.Refusals.{number_of}
 use Rattle.volume_contents.specs.declared.Why.{Why}
 use Rattle.volume_contents.specs.declared.Why.TheVariants.{Line, Contents, Body, Board, Room}
+
+-- what went into a lent slice: the number of its bytes, or why nothing did
+abbrev pub Written : Type 0
+Written = Result ℕ Why
 
 abbrev pub why_number : Why → ℕ
 why_number (Line k) = number_of text

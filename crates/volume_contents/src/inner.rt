@@ -5,7 +5,7 @@ ghost use Rattle.volume_contents.specs.Layout.{head_of, row_of, edition_byte, tw
 ghost use Rattle.volume_contents.specs.Contents.{problems};
 ghost use Rattle.volume_contents.specs.inner.Walks.{edition_of, Rising, Bound, WalksTo};
 
-use super::{Entry, Tested, Walked};
+use super::{Entry, Flaw};
 use laws::Edition;
 use men_field::Line;
 use men_field::inner::push;
@@ -106,7 +106,8 @@ pub fn entry(v: &[u8], at: usize) -> Entry
     }
 }
 
-// Tests `rows` rows that stand in `s` from `at` on: of a table of n rows those from `from` on, the number before them being `last`.
+// Tests `rows` rows that stand in `s` from `at` on: of a table of n rows those from `from` on, the number before them being `last`. Answers the number of the
+// last row, or how the first that is not sound fails, and how many stand before it.
 pub fn walk(
     s: &[u8],
     at: usize,
@@ -115,33 +116,19 @@ pub fn walk(
     from: usize,
     last: usize,
     back: bool,
-) -> Walked
+) -> Result<usize, (Flaw, usize)>
     requires { (at < 65536) × (from + rows ≤ n) × (n < 65536) }
     ensures { WalksTo back n from last s.now at rows result }
 {
     let mut before = last;
-    let mut j = 0;
-    while j < rows {
+    for j in 0..rows {
         let e = entry(s, at + 8 * j);
-        let t = tests::row(e, n, from + j, before, back);
-        match t {
-            Tested::Flawed(f) => {
-                return Walked {
-                    tested: Tested::Flawed(f),
-                    rows: j,
-                    last: before,
-                };
-            }
-            Tested::Sound => {}
+        if let Err(flaw) = tests::row(e, n, from + j, before, back) {
+            return Err((flaw, j));
         }
         before = e.number;
-        j += 1;
     }
-    Walked {
-        tested: Tested::Sound,
-        rows: j,
-        last: before,
-    }
+    Ok(before)
 }
 
 // How many of `rows` rows that rise, in `s` from `at` on, have a number below `number`.
@@ -151,6 +138,7 @@ pub fn find(s: &[u8], at: usize, rows: usize, number: usize) -> usize
 {
     let mut low = 0;
     let mut high = rows;
+    // The library's `partition_point` takes a slice of elements, and the rows are bytes of the file.
     while low < high {
         let mid = (low + high) / 2;
         let e = entry(s, at + 8 * mid);

@@ -36,21 +36,6 @@ pub enum Flaw {
     Many,
 }
 
-// Whether a head or a row passes its tests, or the first that it fails.
-#[derive(Drop)]
-pub enum Tested {
-    Sound,
-    Flawed(Flaw),
-}
-
-// Rows that were tested: how the first of them that is not sound fails, how many stand before it, and the number of the last of these.
-#[derive(Drop)]
-pub struct Walked {
-    pub tested: Tested,
-    pub rows: usize,
-    pub last: usize,
-}
-
 // Why a volume, or the lines of one, are refused, with the line or the row, counted from 1; the head is row 0. Room has the number of bytes needed.
 #[derive(Clone, Copy)]
 pub enum Why {
@@ -59,13 +44,6 @@ pub enum Why {
     Body(usize),
     Board(Refusal, usize),
     Room(usize),
-}
-
-// What went into a lent slice: the number of its bytes, or why nothing did.
-#[derive(Drop)]
-pub enum Written {
-    Count(usize),
-    Refused(Why),
 }
 
 // The number of a refusal: 14, 17, 18, 1 to 6, 13.

@@ -20,7 +20,7 @@ use Rattle.position_text.specs.declared.Raw.{Raw}
 use Rattle.position_text.specs.Form.{printed, Says, AnswersBy, Answers}
 use Rattle.volume_lines.specs.declared.Named.{Named}
 use Rattle.volume_lines.specs.Register.{Told, AllTold, lines_of, Starts, note_of, noted_of}
-use Rattle.volume_lines.specs.inner.Surveys.{is_in_form, Surveyed}
+use Rattle.volume_lines.specs.inner.Surveys.{Surveyed}
 use Rattle.volume_lines.proofs.Breaks.{Free, free_of, free_no, free_split, printed_free, line_one}
 use Rattle.refusal.specs.Refusals.{Verdict}
 
@@ -51,23 +51,23 @@ module _ (t : List ℕ) (at stop : ℕ) (inside : at ≤ length t) (found : stop
       drop-drop (stop - at) at t ∙ ap (λ (k : ℕ). drop k t) e ∙ drop-cons t stop 0 h ∙ (rw (b, add-one)) in
       ap (λ (z : List ℕ). take (stop - at) (drop at t) ++ z) (sym d) ∙ take-append-drop (stop - at) (drop at t)
 
-  pub line_in : (raw : Raw) → stop < length t → Answers A (take (stop - at) (drop at t)) raw → is_in_form raw.form ≡ true → Starts raw.position (drop (stop + 1) t) (drop at t)
+  pub line_in : (raw : Raw) → stop < length t → Answers A (take (stop - at) (drop at t)) raw → raw.form ≡ InForm → Starts raw.position (drop (stop + 1) t) (drop at t)
   line_in raw h a e = go raw.form a e
     where
-      go : (v : Form) → AnswersBy A (take (stop - at) (drop at t)) raw.position v → is_in_form v ≡ true → Starts raw.position (drop (stop + 1) t) (drop at t)
+      go : (v : Form) → AnswersBy A (take (stop - at) (drop at t)) raw.position v → v ≡ InForm → Starts raw.position (drop (stop + 1) t) (drop at t)
       go InForm a e =
           record {
             told = subst (λ (x : List ℕ). Says A raw.position x) (sym a.text) a;
             text = ap (λ (z : List ℕ). z ++ (10 ∷ drop (stop + 1) t)) a.text ∙ cut h;
           }
-      go OutOfForm a e = absurd (let z : ◌≡◌ {A = ℕ} 0 1 = cc in omega arith)
+      go OutOfForm a e = cc
 
-  pub line_out : (raw : Raw) → stop < length t → Answers A (take (stop - at) (drop at t)) raw → is_in_form raw.form ≡ false
+  pub line_out : (raw : Raw) → stop < length t → Answers A (take (stop - at) (drop at t)) raw → raw.form ≡ OutOfForm
       → (p : Position) (u : List ℕ) → Starts p u (drop at t) → ⊥
   line_out raw h a e = go raw.form a e
     where
-      go : (v : Form) → AnswersBy A (take (stop - at) (drop at t)) raw.position v → is_in_form v ≡ false → (p : Position) (u : List ℕ) → Starts p u (drop at t) → ⊥
-      go InForm a e p u w = absurd (let z : ◌≡◌ {A = ℕ} 0 1 = cc in omega arith)
+      go : (v : Form) → AnswersBy A (take (stop - at) (drop at t)) raw.position v → v ≡ OutOfForm → (p : Position) (u : List ℕ) → Starts p u (drop at t) → ⊥
+      go InForm a e p u w = cc
       go OutOfForm a e p u w =
           let d = free_split (printed p) (take (stop - at) (drop at t)) u (drop (stop + 1) t) (printed_free p) piece_free (w.text ∙ sym (cut h)) in
           a.1 p (subst (λ (x : List ℕ). Says A p x) d.0 w.told)
@@ -89,10 +89,10 @@ module _ (t : List ℕ) (at stop : ℕ) (inside : at ≤ length t) (found : stop
 
       go : (v : Form) → raw.form ≡ v → Next p u raw.position
       go InForm e =
-          let l = line_in raw there a (ap is_in_form e) in
+          let l = line_in raw there a e in
           let d = line_one raw.position p (drop (stop + 1) t) u l.told s.told (l.text ∙ sym s.text) in
           record { ended = there; same = d.0; rest = d.1 }
-      go OutOfForm e = absurd (line_out raw there a (ap is_in_form e) p u s)
+      go OutOfForm e = absurd (line_out raw there a e p u s)
 
 -- one line more
 pub all_snoc : (ps : List Position) (p : Position) → AllTold ps → Told p → AllTold (ps ++ (p ∷ []))

@@ -1,11 +1,11 @@
 // The lines of a slice, and the first that is refused.
 ghost use Rattle.std.specs.Prelude.{◌≡◌, ◌+◌, ◌<◌, length};
 ghost use Rattle.volume_lines.specs.Register.{note_of, unrefused};
-ghost use Rattle.volume_lines.specs.inner.Surveys.{is_in_form, Surveyed};
+ghost use Rattle.volume_lines.specs.inner.Surveys.{Surveyed};
 
 use super::{Named, Survey};
 use laws::Edition;
-use position_text::{Form, Raw};
+use position_text::Form;
 use refusal::Verdict;
 
 // The verdict on one board more, that of the line k.
@@ -41,16 +41,6 @@ pub fn unrefused() -> Named
     }
 }
 
-fn is_in_form(r: Raw) -> bool
-    ensures { result ≡ is_in_form r.form }
-{
-    let form = r.form;
-    match form {
-        Form::InForm => true,
-        Form::OutOfForm => false,
-    }
-}
-
 // The lines that end in `t`, up to the first that is out of form. `count` lines stand before them, with the verdict `before`.
 pub fn survey(t: &[u8], count: usize, before: Named) -> Survey
     requires { count + length t.now < 18446744073709551616 }
@@ -59,6 +49,7 @@ pub fn survey(t: &[u8], count: usize, before: Named) -> Survey
     let mut named = before;
     let mut n = count;
     let mut at = 0;
+    // `at` steps from line to line by where the newline stands, so it counts no index.
     while at < t.len() {
         let stop = chunks::inner::find(t, at, t.len());
         if stop == t.len() {
@@ -70,7 +61,7 @@ pub fn survey(t: &[u8], count: usize, before: Named) -> Survey
             };
         }
         let raw = position_text::inner::read_raw(&t[at..stop], Edition::A);
-        if !is_in_form(raw) {
+        if let Form::OutOfForm = raw.form {
             return Survey {
                 count: n,
                 named: named,

@@ -52,23 +52,6 @@ pub record Going (t o : List ℕ) (start at to : ℕ) (x : List ℕ) : Type 0 wh
   pub begin : start ≤ length o
   pub inside : at ≤ length t
 
-pub going_none : (t o : List ℕ) (start : ℕ) → Sized t o start → Going t o start 0 start o
-going_none t o start s =
-    record {
-      boards = s.boards;
-      lines = s.lines;
-      todo = s.boards;
-      told = s.lines.told;
-      left = s.lines.text;
-      done = [];
-      filled = rw (append-nil (take start o)) (filled_front o start (omega (arith, s.room)));
-      place = omega arith;
-      come = refl;
-      room = s.room;
-      begin = omega (arith, s.room);
-      inside = omega arith;
-    }
-
 -- the first of the lines to come
 record First (t : List ℕ) (at : ℕ) (todo : List Position) : Type 0 where
   pub board : Position
@@ -166,7 +149,3 @@ volume_in t o a b x n l s k p q r = λ ps w.
   where
     over : (i : ℕ) → i ≡ 0 + i
     over i = omega arith
-
--- room for the bodies, when the head and the rows are written
-pub sized_from : (t o b : List ℕ) (n : ℕ) → Counted t o n → length b ≡ length o → Sized t b (6 + 8 * n)
-sized_from t o b n s e = record { boards = s.boards; lines = s.lines; room = omega (arith, s.room, s.count) }

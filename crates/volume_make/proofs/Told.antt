@@ -13,7 +13,8 @@ use Rattle.refusal.specs.declared.Refusal.{Refusal}
 use Rattle.position_text.specs.Form.{printed}
 use Rattle.volume_contents.specs.declared.Flaw.TheVariants.{Many}
 use Rattle.volume_contents.specs.declared.Why.TheVariants.{Contents, Board, Room}
-use Rattle.volume_contents.specs.declared.Written.TheVariants.{Count, Refused}
+use Rattle.volume_contents.proofs.Answered.{count_same, why_same}
+use Rattle.std.specs.Prelude.{Ok, Err}
 use Rattle.volume_lines.specs.declared.Named.{Named}
 use Rattle.volume_lines.specs.declared.Survey.{Survey}
 use Rattle.volume_lines.specs.Register.{lines_of, Lines, Starts, Stops, unrefused}
@@ -24,7 +25,6 @@ use Rattle.volume_make.specs.Making.{Makes, many, refuses, room, written}
 use Rattle.volume_make.specs.inner.Filling.{Counted, VolumeIn}
 use Rattle.volume_make.proofs.Sizes.{bound_length}
 use Rattle.refusal.specs.Refusals.{nothing_refused}
-use Rattle.std.specs.Prelude.{Err}
 
 lines_few : (ps : List Position) → length ps ≤ length (lines_of ps)
 unfolding lines_of
@@ -80,24 +80,24 @@ module _ (t : List ℕ) (s : Survey) (w : Surveyed t 0 unrefused s) where
     size : length (bound w.boards) ≡ 6 + 42 * s.count
     size = bound_length w.boards ∙ ap (λ (k : ℕ). 6 + 42 * k) count_is
 
-    pub told_many : 65535 < s.count → Makes t o (Refused (Contents Many 65536)) o
+    pub told_many : 65535 < s.count → Makes t o (Err (Contents Many 65536)) o
     told_many h = many w.boards (all_lines e) (omega (arith, count_is)) refl refl
 
-    pub told_refuses : (v : Refusal) → s.count ≤ 65535 → s.named.verdict ≡ Err v → Makes t o (Refused (Board v s.named.line)) o
+    pub told_refuses : (v : Refusal) → s.count ≤ 65535 → s.named.verdict ≡ Err v → Makes t o (Err (Board v s.named.line)) o
     told_refuses v h q =
         refuses w.boards (all_lines e) (omega (arith, count_is)) v (ap (λ (x : Named). x.verdict) (sym w.named_is) ∙ q)
-        (ap (λ (x : Named). Refused (Board v x.line)) w.named_is) refl
+        (why_same (ap (λ (x : Named). Board v x.line) w.named_is)) refl
 
-    pub told_room : s.count ≤ 65535 → s.named.verdict ≡ nothing_refused → length o < 6 + 42 * s.count → Makes t o (Refused (Room (6 + 42 * s.count))) o
+    pub told_room : s.count ≤ 65535 → s.named.verdict ≡ nothing_refused → length o < 6 + 42 * s.count → Makes t o (Err (Room (6 + 42 * s.count))) o
     told_room h q k =
         room w.boards (all_lines e) (omega (arith, count_is)) (ap (λ (x : Named). x.verdict) (sym w.named_is) ∙ q) (omega (arith, size))
-        (ap (λ (i : ℕ). Refused (Room i)) (sym size)) refl
+        (why_same (ap Room (sym size))) refl
 
     pub counted : 6 + 42 * s.count ≤ length o → Counted t o s.count
     counted h = record { boards = w.boards; lines = all_lines e; count = count_is; room = h }
 
     pub told_written : (x : List ℕ) → s.count ≤ 65535 → s.named.verdict ≡ nothing_refused → 6 + 42 * s.count ≤ length o → VolumeIn t o x
-        → Makes t o (Count (6 + 42 * s.count)) x
+        → Makes t o (Ok (6 + 42 * s.count)) x
     told_written x h q k v =
         written w.boards (all_lines e) (omega (arith, count_is)) (ap (λ (y : Named). y.verdict) (sym w.named_is) ∙ q) (omega (arith, size))
-        (ap Count (sym size)) (v w.boards (all_lines e))
+        (count_same (sym size)) (v w.boards (all_lines e))

@@ -9,15 +9,14 @@ use borrow.Author.Tests.{lt-ltb, le-ltb}
 use Rattle.laws.specs.declared.Position.{Position}
 use Rattle.volume_contents.specs.declared.Flaw.TheVariants.{Many}
 use Rattle.volume_contents.specs.declared.Why.TheVariants.{Line, Contents, Board, Room}
-use Rattle.volume_contents.specs.declared.Written.{Written}
-use Rattle.volume_contents.specs.declared.Written.TheVariants.{Count, Refused}
+use Rattle.volume_contents.specs.Refusing.{Written}
+use Rattle.std.specs.Prelude.{Ok, Err}
 use Rattle.volume_lines.specs.Register.{Lines, Stops, first_refused}
 use Rattle.volume_lines.proofs.Breaks.{lines_one, stops_lines}
 use Rattle.volume_lines.proofs.Unique.{stops_one}
 use Rattle.volume_make.specs.Volumes.{bound}
 use Rattle.volume_make.specs.Making.{Makes, unlined, many, refuses, room, written}
 use Rattle.refusal.specs.Refusals.{Verdict}
-use Rattle.std.specs.Prelude.{Ok, Err}
 
 -- an answer, and what the slice then holds
 abbrev pub Answer : Type 0
@@ -36,16 +35,16 @@ data Parts (t : List ℕ) : Type 0 where
 
 -- are there too many lines, what is the verdict on them, is there too little room
 abbrev answer_by : List Position → List ℕ → Bool → Verdict → Bool → Answer
-answer_by ps o true v b = (Refused (Contents Many 65536), o)
-answer_by ps o false (Err w) b = (Refused (Board w (first_refused ps).line), o)
-answer_by ps o false (Ok _) true = (Refused (Room (length (bound ps))), o)
-answer_by ps o false (Ok _) false = (Count (length (bound ps)), bound ps ++ drop (length (bound ps)) o)
+answer_by ps o true v b = (Err (Contents Many 65536), o)
+answer_by ps o false (Err w) b = (Err (Board w (first_refused ps).line), o)
+answer_by ps o false (Ok _) true = (Err (Room (length (bound ps))), o)
+answer_by ps o false (Ok _) false = (Ok (length (bound ps)), bound ps ++ drop (length (bound ps)) o)
 
 lines_answer : List Position → List ℕ → Answer
 lines_answer ps o = answer_by ps o (ltb 65535 (length ps)) (first_refused ps).verdict (ltb (length o) (length (bound ps)))
 
 abbrev answer : (t o : List ℕ) → Parts t → Answer
-answer t o (stop k s) = (Refused (Line (k + 1)), o)
+answer t o (stop k s) = (Err (Line (k + 1)), o)
 answer t o (all ps l) = lines_answer ps o
 
 parts : (t o : List ℕ) (r : Written) (x : List ℕ) → Makes t o r x → (p : Parts t) × Is r x (answer t o p)
@@ -57,7 +56,7 @@ parts t o r x (room ps l n v h e d) = (all ps l, rw (le-ltb _ _ n, v, lt-ltb _ _
 parts t o r x (written ps l n v h e d) = (all ps l, rw (le-ltb _ _ n, v, le-ltb _ _ h) (e, d))
 
 parts_one : (t o : List ℕ) (p q : Parts t) → answer t o p ≡ answer t o q
-parts_one t o (stop j a) (stop k b) = let e = stops_one t j k a b in λ i. (Refused (Line (e i + 1)), o)
+parts_one t o (stop j a) (stop k b) = let e = stops_one t j k a b in λ i. (Err (Line (e i + 1)), o)
 parts_one t o (stop k a) (all ps l) = absurd (stops_lines t k ps a l)
 parts_one t o (all ps l) (stop k a) = absurd (stops_lines t k ps a l)
 parts_one t o (all ps l) (all qs m) = ap (λ (z : List Position). lines_answer z o) (lines_one t ps qs l m)

@@ -21,14 +21,12 @@ fn put_rows(out: &mut [u8], n: usize)
     requires { (n < 65536) × (6 + 8 * n ≤ length out.old) }
     ensures { out.new ≡ take 6 out.old ++ joined (plain_row n) n ++ drop (6 + 8 * n) out.old }
 {
-    let mut i = 0;
-    while i < n {
+    for i in 0..n {
         put(
             out,
             6 + 8 * i,
             volume_contents::inner::row_of(i + 1, Edition::A, 6 + 8 * n + 34 * i),
         );
-        i += 1;
     }
 }
 
@@ -39,6 +37,7 @@ fn put_bodies(t: &[u8], out: &mut [u8], start: usize)
 {
     let mut at = 0;
     let mut to = start;
+    // `at` steps from line to line by where the newline stands, so it counts no index.
     while at < t.len() {
         let stop = chunks::inner::find(t, at, t.len());
         let raw = position_text::inner::read_raw(&t[at..stop], Edition::A);

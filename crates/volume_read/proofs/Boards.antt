@@ -14,14 +14,13 @@ use Rattle.position_text.specs.declared.Raw.{Raw}
 use Rattle.position_text.specs.Form.{printed}
 use Rattle.volume_body.specs.Layout.{Embodies, AnswersBy}
 use Rattle.volume_body.proofs.Inverse.{embodies_one}
-use Rattle.volume_contents.specs.declared.Why.{Why}
 use Rattle.volume_contents.specs.Layout.{edition_byte}
 use Rattle.volume_contents.specs.Contents.{row_at}
 use Rattle.volume_contents.specs.inner.Walks.{edition_of}
 use Rattle.volume_lines.specs.Register.{lines_of}
 use Rattle.volume_lines.proofs.Pieces.{lines_append}
-use Rattle.volume_read.specs.Reading.{body_at, HasBoard, Passes, Fails, Boards}
-use Rattle.volume_read.specs.inner.Scanning.{Sized, AnswersAt, AllGood, FirstBad}
+use Rattle.volume_read.specs.Reading.{body_at, HasBoard, Passes, Boards}
+use Rattle.volume_read.specs.inner.Scanning.{Sized, AnswersAt}
 
 pub edition_one : (a b : Edition) → edition_byte a ≡ edition_byte b → a ≡ b
 edition_one A A e = refl
@@ -109,10 +108,3 @@ scanning_more {v} {n} {i} {size} {len} p s h q e l =
       small = omega (arith, s.small);
       inside = omega arith;
     }
-
-pub scanning_bad : {v : List ℕ} {n i size : ℕ} {why : Why} → Scanning v n i size → i < n → Fails v n i why → FirstBad v n why
-scanning_bad {v} {n} {i} {size} {why} s h f =
-    record { list = s.list; boards = s.boards; inside = omega (arith, s.count); fails = subst (λ (k : ℕ). Fails v n k why) (sym s.count) f }
-
-pub scanning_done : {v : List ℕ} {n i size : ℕ} → Scanning v n i size → n ≤ i → AllGood v n size
-scanning_done {v} {n} {i} {size} s h = record { list = s.list; boards = s.boards; count = omega (arith, s.count, s.inside); size_is = s.size_is }

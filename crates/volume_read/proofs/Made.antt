@@ -18,10 +18,9 @@ use Rattle.volume_body.specs.Layout.{bodied, Embodies}
 use Rattle.volume_contents.specs.declared.Entry.{Entry}
 use Rattle.volume_contents.specs.declared.Flaw.{Flaw}
 use Rattle.volume_contents.specs.declared.Flaw.TheVariants.{Length}
-use Rattle.volume_contents.specs.declared.Tested.{Tested}
-use Rattle.volume_contents.specs.declared.Tested.TheVariants.{Sound}
+use Rattle.std.specs.Prelude.{Ok}
 use Rattle.volume_contents.specs.Layout.{head_of, edition_byte, row_of, body_place, size_of, two_at, entry_at}
-use Rattle.volume_contents.specs.Contents.{unless, problems, head_tested, row_tested, row_at, number_before, tested_at}
+use Rattle.volume_contents.specs.Contents.{Tested, unless, problems, head_tested, row_tested, row_at, number_before, tested_at}
 use Rattle.volume_make.specs.Volumes.{Problem, rows_of, bodies_of, volume_of}
 use Rattle.volume_make.proofs.Sizes.{bodied_length, rows_length, volume_length}
 use Rattle.volume_read.specs.Problems.{problems_from}
@@ -94,11 +93,11 @@ unfolding ◌or◌
 back_ok true b f = f refl
 back_ok false b f = refl
 
-unless_true : (b : Bool) (w : Flaw) (t : Tested) → b ≡ true → t ≡ Sound → unless b w t ≡ Sound
+unless_true : (b : Bool) (w : Flaw) (t : Tested) → b ≡ true → t ≡ Ok tt → unless b w t ≡ Ok tt
 unless_true b w t e q = (λ i. unless (e i) w (q i))
 
 row_passes : (back : Bool) (n i last : ℕ) (x : Problem) → i < n → Right back i last x
-    → row_tested back n i last (record { number = x.number; edition = edition_byte x.board.terms.edition; place = body_place n i; length = 34 }) ≡ Sound
+    → row_tested back n i last (record { number = x.number; edition = edition_byte x.board.terms.edition; place = body_place n i; length = 34 }) ≡ Ok tt
 unfolding row_tested
 row_passes back n i last x h r =
     unless_true _ _ _ (lt-ltb 0 x.number (omega (arith, r.above)))
@@ -133,16 +132,16 @@ module _ (back : Bool) (v : List ℕ) (n : ℕ) (few : n < 65536) (size : length
       entry_is v (rows_of (body_place n (suc i)) xs ++ u) (6 + 8 * i) x.number (body_place n i) x.board.terms.edition k (omega arith) (step i x xs u e)
 
   rows_pass : (i last : ℕ) (xs : List Problem) (u : List ℕ) → i + length xs ≤ n → number_before v i ≡ last → AllRight back i last xs
-      → drop (6 + 8 * i) v ≡ rows_of (body_place n i) xs ++ u → (j : ℕ) → j < length xs → tested_at back v n (i + j) ≡ Sound
+      → drop (6 + 8 * i) v ≡ rows_of (body_place n i) xs ++ u → (j : ℕ) → j < length xs → tested_at back v n (i + j) ≡ Ok tt
   rows_pass i last [] u h b a e j g = absurd (omega arith)
   rows_pass i last (x ∷ xs) u h b a e zero g =
       let z : i + 0 ≡ i = omega arith in
-      subst (λ (k : ℕ). tested_at back v n k ≡ Sound) (sym z)
+      subst (λ (k : ℕ). tested_at back v n k ≡ Ok tt) (sym z)
       ((λ k. row_tested back n i (b k) (entry_of i x xs u (omega arith) a.0.few e k)) ∙ row_passes back n i last x (omega arith) a.0)
   rows_pass i last (x ∷ xs) u h b a e (suc j) g =
       let z : suc i + j ≡ i + suc j = omega arith in
       let number : number_before v (suc i) ≡ x.number = ap (λ (r : Entry). r.number) (entry_of i x xs u (omega arith) a.0.few e) in
-      subst (λ (k : ℕ). tested_at back v n k ≡ Sound) z
+      subst (λ (k : ℕ). tested_at back v n k ≡ Ok tt) z
       (rows_pass (suc i) x.number xs u (omega arith) number a.1 (next i x xs u e) j (omega arith))
 
   -- the boards, whose bodies stand behind
@@ -192,7 +191,7 @@ module _ (back : Bool) (xs : List Problem) (few : length xs < 65536) (a : AllRig
       let y : get_or (volume_of xs) (4 + 1) 0 ≡ length xs % 256 = head_byte 5 (length xs % 256) refl in
       omega arith
 
-  head_passes : head_tested (volume_of xs) (length (volume_of xs)) ≡ Sound
+  head_passes : head_tested (volume_of xs) (length (volume_of xs)) ≡ Ok tt
   unfolding head_tested
   head_passes =
       unless_true _ _ _ (both (both (eq-eqb _ _ (head_byte 0 86 refl)) (eq-eqb _ _ (head_byte 1 79 refl))) (eq-eqb _ _ (head_byte 2 76 refl)))
@@ -209,7 +208,7 @@ module _ (back : Bool) (xs : List Problem) (few : length xs < 65536) (a : AllRig
           count = count;
           rows = λ j h.
               let z : 0 + j ≡ j = omega arith in
-              subst (λ (k : ℕ). tested_at back (volume_of xs) (length xs) k ≡ Sound) z
+              subst (λ (k : ℕ). tested_at back (volume_of xs) (length xs) k ≡ Ok tt) z
               (rows_pass back (volume_of xs) (length xs) few (volume_length xs) 0 0 xs (bodies_of xs) (omega arith) refl a first_rows j h);
         };
         boards = boards_there back (volume_of xs) (length xs) few (volume_length xs) 0 0 xs (bodies_of xs) (omega arith) a first_rows first_body;

@@ -13,8 +13,9 @@ use Rattle.laws.specs.declared.Terms.{Terms}
 use Rattle.laws.specs.Positions.{terms_of}
 use Rattle.refusal.specs.declared.Refusal.{Refusal}
 use Rattle.accept.specs.Verdicts.{judged_of}
-use Rattle.volume_contents.specs.declared.Written.{Written}
-use Rattle.volume_contents.specs.declared.Written.TheVariants.{Count}
+use Rattle.std.specs.Prelude.{Ok}
+use Rattle.volume_contents.specs.Refusing.{Written}
+use Rattle.volume_contents.proofs.Answered.{count_same}
 use Rattle.volume_contents.specs.Contents.{row_at, Table}
 use Rattle.volume_contents.proofs.Sound.{plain_row}
 use Rattle.volume_lines.specs.declared.Named.{Named}
@@ -120,11 +121,11 @@ whole_told v n ps w =
     (a.0, pass_noted ps unrefused 0 refl a.1)
 
 -- lines into a volume x, and the volume back into y: the same lines
-pub there_and_back : (t o x v p y : List ℕ) (m : ℕ) (s : Written) → Makes t o (Count m) x → take m x ≡ v → Unmakes v p s y → length t ≤ length p
-    → (s ≡ Count (length t)) × (y ≡ t ++ drop (length t) p)
+pub there_and_back : (t o x v p y : List ℕ) (m : ℕ) (s : Written) → Makes t o (Ok m) x → take m x ≡ v → Unmakes v p s y → length t ≤ length p
+    → (s ≡ Ok (length t)) × (y ≡ t ++ drop (length t) p)
 there_and_back t o x v p y m s a c b h = go a
   where
-    go : Makes t o (Count m) x → (s ≡ Count (length t)) × (y ≡ t ++ drop (length t) p)
+    go : Makes t o (Ok m) x → (s ≡ Ok (length t)) × (y ≡ t ++ drop (length t) p)
     go (unlined k l e d) = absurd (let z : ◌≡◌ {A = ℕ} 0 1 = cc in omega arith)
     go (many ps l k e d) = absurd (let z : ◌≡◌ {A = ℕ} 0 1 = cc in omega arith)
     go (refuses ps l k w q e d) = absurd (let z : ◌≡◌ {A = ℕ} 0 1 = cc in omega arith)
@@ -134,15 +135,15 @@ there_and_back t o x v p y m s a c b h = go a
         let vv : v ≡ bound ps = sym c ∙ (λ i. take (mm i) (d i)) ∙ take_at (bound ps) (drop (length (bound ps)) o) (length (bound ps)) refl in
         let w : Whole true v (length ps) ps = subst (λ (u : List ℕ). Whole true u (length ps) ps) (sym vv) (bound_whole ps (omega arith) l.told q) in
         let same : lines_of ps ≡ t = l.text in
-        let r = unmakes_one v p s (Count (length (lines_of ps))) y (lines_of ps ++ drop (length (lines_of ps)) p) b (lined (length ps) ps w (omega (arith, ap length same)) refl refl) in
-        (r.0 ∙ ap (λ (u : List ℕ). Count (length u)) same, r.1 ∙ ap (λ (u : List ℕ). u ++ drop (length u) p) same)
+        let r = unmakes_one v p s (Ok (length (lines_of ps))) y (lines_of ps ++ drop (length (lines_of ps)) p) b (lined (length ps) ps w (omega (arith, ap length same)) refl refl) in
+        (r.0 ∙ count_same (ap length same), r.1 ∙ ap (λ (u : List ℕ). u ++ drop (length u) p) same)
 
 -- a volume back into lines x, and the lines into a volume y: the same volume
-pub back_and_there : (v o x t p y : List ℕ) (m : ℕ) (s : Written) → Bytes v → Unmakes v o (Count m) x → take m x ≡ t → Makes t p s y → length v ≤ length p
-    → (s ≡ Count (length v)) × (y ≡ v ++ drop (length v) p)
+pub back_and_there : (v o x t p y : List ℕ) (m : ℕ) (s : Written) → Bytes v → Unmakes v o (Ok m) x → take m x ≡ t → Makes t p s y → length v ≤ length p
+    → (s ≡ Ok (length v)) × (y ≡ v ++ drop (length v) p)
 back_and_there v o x t p y m s bytes a c b h = go a
   where
-    go : Unmakes v o (Count m) x → (s ≡ Count (length v)) × (y ≡ v ++ drop (length v) p)
+    go : Unmakes v o (Ok m) x → (s ≡ Ok (length v)) × (y ≡ v ++ drop (length v) p)
     go (unread why j e d) = absurd (let z : ◌≡◌ {A = ℕ} 0 1 = cc in omega arith)
     go (narrow n ps w j e d) = absurd (let z : ◌≡◌ {A = ℕ} 0 1 = cc in omega arith)
     go (lined n ps w j e d) =
@@ -150,5 +151,5 @@ back_and_there v o x t p y m s bytes a c b h = go a
         let same : t ≡ lines_of ps = sym c ∙ (λ i. take (mm i) (d i)) ∙ take_at (lines_of ps) (drop (length (lines_of ps)) o) (length (lines_of ps)) refl in
         let told = whole_told v n ps w in
         let vv : bound ps ≡ v = whole_bound v n ps bytes w in
-        let r = makes_one t p s (Count (length (bound ps))) y (bound ps ++ drop (length (bound ps)) p) b (written ps (record { told = told.0; text = sym same }) (omega (arith, bytes 4, bytes (4 + 1), w.table.count, w.count)) told.1 (omega (arith, ap length vv)) refl refl) in
-        (r.0 ∙ ap (λ (u : List ℕ). Count (length u)) vv, r.1 ∙ ap (λ (u : List ℕ). u ++ drop (length u) p) vv)
+        let r = makes_one t p s (Ok (length (bound ps))) y (bound ps ++ drop (length (bound ps)) p) b (written ps (record { told = told.0; text = sym same }) (omega (arith, bytes 4, bytes (4 + 1), w.table.count, w.count)) told.1 (omega (arith, ap length vv)) refl refl) in
+        (r.0 ∙ count_same (ap length vv), r.1 ∙ ap (λ (u : List ℕ). u ++ drop (length u) p) vv)

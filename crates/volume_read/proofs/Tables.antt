@@ -9,14 +9,13 @@ use native.Mathlib.Numerals.{add-one}
 use lib.ListN.{length}
 use Rattle.squares.proofs.Testing.{order}
 use Rattle.volume_contents.specs.declared.Flaw.{Flaw}
-use Rattle.volume_contents.specs.declared.Tested.{Tested}
-use Rattle.volume_contents.specs.declared.Tested.TheVariants.{Sound, Flawed}
-use Rattle.volume_contents.specs.declared.Walked.{Walked}
+use Rattle.std.specs.Prelude.{Ok, Err}
+use Rattle.volume_contents.specs.declared.Why.TheVariants.{Contents}
 use Rattle.volume_contents.specs.Layout.{edition_byte}
-use Rattle.volume_contents.specs.Contents.{head_tested, problems, row_tested, row_at, number_before, tested_at, Table, Spoilt, head, row}
-use Rattle.volume_contents.specs.inner.Walks.{edition_of, last_in, tested_in, Ends, WalksTo, Rising, Bound}
+use Rattle.volume_contents.specs.Contents.{Tested, head_tested, problems, row_tested, row_at, number_before, tested_at, Table, Spoilt, row}
+use Rattle.volume_contents.specs.inner.Walks.{edition_of, last_in, tested_in, WalksTo, Rising, Bound}
 use Rattle.volume_contents.proofs.Sound.{row_of_lem, size_of_lem, rising}
-use Rattle.volume_read.specs.inner.Scanning.{Sized}
+use Rattle.volume_read.specs.inner.Scanning.{Sized, Untabled, flawed}
 
 last_same : (v : List ℕ) (i : ℕ) → last_in 0 v 6 i ≡ number_before v i
 last_same v zero = refl
@@ -28,23 +27,12 @@ tested_same back v n i = (λ k. row_tested back n (z k) (last_same v i k) (row_a
     z : 0 + i ≡ i
     z = omega arith
 
-module _ (back : Bool) (v : List ℕ) (n : ℕ) (h : head_tested v (length v) ≡ Sound) (c : n ≡ problems v) (w : Walked) (s : WalksTo back n 0 0 v 6 n w) where
-  pub table_sound : w.tested ≡ Sound → Table back v n
-  table_sound e =
-      let z : w.rows ≡ n = subst (λ (t : Tested). Ends back n 0 0 v 6 n w.rows t) e s.ends in
-      record { head = h; count = sym c; rows = λ i g. sym (tested_same back v n i) ∙ s.sound i (omega arith) }
-
-  pub rows_few : (f : Flaw) → w.tested ≡ Flawed f → w.rows < n
-  rows_few f e = (subst (λ (t : Tested). Ends back n 0 0 v 6 n w.rows t) e s.ends).0
-
-  pub table_spoilt : (f : Flaw) → w.tested ≡ Flawed f → Spoilt back v (w.rows + 1) f
-  table_spoilt f e =
-      let z = subst (λ (t : Tested). Ends back n 0 0 v 6 n w.rows t) e s.ends in
-      subst (λ (k : ℕ). Spoilt back v k f) (sym (add-one w.rows))
-      (row w.rows f h (omega (arith, z.0)) (λ j g. at j (s.sound j g)) (at w.rows z.1))
+module _ (back : Bool) (v : List ℕ) (n : ℕ) (h : head_tested v (length v) ≡ Ok tt) (c : n ≡ problems v) where
+  pub table_spoilt : (f : Flaw) (j : ℕ) → WalksTo back n 0 0 v 6 n (Err (f, j)) → Untabled back v (Contents f (j + 1))
+  table_spoilt f j s = flawed f (j + 1) (subst (λ (k : ℕ). Spoilt back v k f) (sym (add-one j)) (row j f h (omega (arith, s.1)) (λ i g. at i (s.0 i g)) (at j s.2)))
     where
-      at : {t : Tested} (j : ℕ) → tested_in back n 0 0 v 6 j ≡ t → tested_at back v (problems v) j ≡ t
-      at j q = ap (λ (k : ℕ). tested_at back v k j) (sym c) ∙ sym (tested_same back v n j) ∙ q
+      at : {t : Tested} (i : ℕ) → tested_in back n 0 0 v 6 i ≡ t → tested_at back v (problems v) i ≡ t
+      at i q = ap (λ (k : ℕ). tested_at back v k i) (sym c) ∙ sym (tested_same back v n i) ∙ q
 
 edition_back : (b : ℕ) → (b ≡ 65) ⊎ (b ≡ 66) → edition_byte (edition_of b) ≡ b
 edition_back b = ⊎_elim (λ e. ap (λ (x : ℕ). edition_byte (edition_of x)) e ∙ sym e) (λ e. ap (λ (x : ℕ). edition_byte (edition_of x)) e ∙ sym e)
@@ -60,9 +48,6 @@ rising_rows v n t = rising false v n t
 
 -- no row has a number: the one that would have it is behind the last, or has another
 module _ (v : List ℕ) (n k r : ℕ) (b : Bound v 6 n k r) where
-  pub none_past : n ≤ r → (i : ℕ) → i < n → (row_at v i).number ≡ k → ⊥
-  none_past h i g e = let z = b.below i (omega arith) in omega arith
-
   pub none_other : Table false v n → r < n → ((row_at v r).number ≡ k → ⊥) → (i : ℕ) → i < n → (row_at v i).number ≡ k → ⊥
   none_other t h f i g e =
       ⊎_elim (λ l. let z = b.below i l in omega arith)

@@ -13,24 +13,17 @@ use Rattle.laws.specs.declared.Position.{Position}
 use Rattle.refusal.specs.declared.Refusal.{Refusal}
 use Rattle.refusal.proofs.Saying.{never}
 use Rattle.accept.specs.Verdicts.{judged_of}
-use Rattle.position.specs.Answers.{no_position}
 use Rattle.volume_contents.specs.declared.Why.{Why}
 use Rattle.volume_contents.specs.declared.Why.TheVariants.{Contents, Board as board, Room}
-use Rattle.volume_contents.specs.declared.Written.{Written}
-use Rattle.volume_contents.specs.declared.Written.TheVariants.{Count, Refused as Unwritten}
+use Rattle.volume_contents.specs.Refusing.{Written}
+use Rattle.volume_contents.proofs.Answered.{count_same, why_same}
+use Rattle.std.specs.Prelude.{Option, Some, None, Result, Ok, Err}
 use Rattle.volume_contents.specs.Contents.{row_at, Table}
 use Rattle.volume_contents.proofs.Sound.{one_row}
 use Rattle.volume_contents.proofs.Unique.{spoilt_one, sound_spoilt, table_one}
 use Rattle.volume_lines.specs.Register.{lines_of}
 use Rattle.volume_make.proofs.Unique.{Answer, Is, is_one}
-use Rattle.volume_read.specs.declared.Judged.{Judged as Told}
-use Rattle.volume_read.specs.declared.Judged.TheVariants.{Accepted as Good, Refused as Bad}
-use Rattle.volume_read.specs.declared.Checked.{Checked}
-use Rattle.volume_read.specs.declared.Checked.TheVariants.{Problems, Refused as Unchecked}
-use Rattle.volume_read.specs.declared.Found.{Found}
-use Rattle.volume_read.specs.declared.Sought.{Sought}
-use Rattle.volume_read.specs.declared.Sought.TheVariants.{Found as There, Absent, Refused}
-use Rattle.volume_read.specs.Reading.{Passes, Fails, bodiless, unjudged, ReadsBy, Boards, Judged, by_table, by_row, Whole, Checks, FindsBy, Finds, spoilt, sound, Unmakes, refuses, narrow, lined}
+use Rattle.volume_read.specs.Reading.{Passes, Fails, bodiless, unjudged, Reads, Boards, Judged, by_table, by_row, Whole, Checks, FindsIn, Finds, spoilt, sound, Unmakes, refuses, narrow, lined}
 use Rattle.volume_read.proofs.Boards.{has_one, boards_one}
 use Rattle.refusal.specs.Refusals.{Verdict}
 use Rattle.std.specs.Prelude.{Err}
@@ -51,11 +44,11 @@ module _ (v : List ℕ) (n i : ℕ) where
   fails_one a b (unjudged p w x d) (unjudged q u y e) =
       ap (λ (z : Refusal). board z (i + 1)) (refusal_one (judged_of q) w u (sym (ap judged_of (has_one v n i p q x y)) ∙ d) e)
 
-  reads_one : (p q : Position) (a b : Told) → ReadsBy v n i p a → ReadsBy v n i q b → (p ≡ q) × (a ≡ b)
-  reads_one p q Good Good x y = (has_one v n i p q x.0 y.0, refl)
-  reads_one p q Good (Bad w) x y = absurd (passes_fails p w x y.0)
-  reads_one p q (Bad w) Good x y = absurd (passes_fails q w y x.0)
-  reads_one p q (Bad w) (Bad u) x y = (x.1 ∙ sym y.1, ap Bad (fails_one w u x.0 y.0))
+  reads_one : (a b : Result Position Why) → Reads v n i a → Reads v n i b → a ≡ b
+  reads_one (Ok p) (Ok q) x y = let e = has_one v n i p q x.0 y.0 in λ k. Ok (e k)
+  reads_one (Ok p) (Err w) x y = absurd (passes_fails p w x y)
+  reads_one (Err w) (Ok q) x y = absurd (passes_fails q w y x)
+  reads_one (Err w) (Err u) x y = let e = fails_one w u x y in λ k. Err (e k)
 
 -- no row fails before boards end
 behind : (v : List ℕ) (n i j : ℕ) (ps : List Position) (why : Why) → Boards v n i ps → Fails v n j why → i ≤ j → i + length ps ≤ j
@@ -89,46 +82,42 @@ module _ (back : Bool) (v : List ℕ) where
       let e = table_one back v m n t a.table in
       omega (arith, behind v n 0 (length qs) ps why a.boards (subst (λ (k : ℕ). Fails v k (length qs) why) e f) (omega arith), a.count)
 
-pub checks_one : (v : List ℕ) (r s : Checked) → Checks v r → Checks v s → r ≡ s
-checks_one v (Problems n) (Problems m) a b = ap Problems (whole_one false v n m a.0 b.0 a.1 b.1).0
-checks_one v (Problems n) (Unchecked u) a b = absurd (judged_whole false v u n a.0 b a.1)
-checks_one v (Unchecked w) (Problems m) a b = absurd (judged_whole false v w m b.0 a b.1)
-checks_one v (Unchecked w) (Unchecked u) a b = ap Unchecked (judged_one false v w u a b)
+pub checks_one : (v : List ℕ) (r s : Result ℕ Why) → Checks v r → Checks v s → r ≡ s
+checks_one v (Ok n) (Ok m) a b = count_same (whole_one false v n m a.0 b.0 a.1 b.1).0
+checks_one v (Ok n) (Err u) a b = absurd (judged_whole false v u n a.0 b a.1)
+checks_one v (Err w) (Ok m) a b = absurd (judged_whole false v w m b.0 a b.1)
+checks_one v (Err w) (Err u) a b = why_same (judged_one false v w u a b)
 
 -- a number has a row that is read, or none
-abbrev sought_of : Told → Sought
-sought_of Good = There
-sought_of (Bad why) = Refused why
+abbrev sought_of : Result Position Why → Result (Option Position) Why
+sought_of (Ok p) = Ok (Some p)
+sought_of (Err why) = Err why
 
 module _ (v : List ℕ) (n k : ℕ) where
-  data Looked (p : Position) (s : Sought) : Type 0 where
-    seen : (i : ℕ) → i < n → (row_at v i).number ≡ k → (j : Told) → ReadsBy v n i p j → s ≡ sought_of j → Looked p s
-    unseen : ((i : ℕ) → i < n → (row_at v i).number ≡ k → ⊥) → p ≡ no_position → s ≡ Absent → Looked p s
+  data Looked (r : Result (Option Position) Why) : Type 0 where
+    seen : (i : ℕ) → i < n → (row_at v i).number ≡ k → (j : Result Position Why) → Reads v n i j → r ≡ sought_of j → Looked r
+    unseen : ((i : ℕ) → i < n → (row_at v i).number ≡ k → ⊥) → r ≡ Ok None → Looked r
 
-  looked : (p : Position) (s : Sought) → FindsBy v n k p s → Looked p s
-  looked p There a = seen a.0 a.1 a.2 Good a.3 refl
-  looked p Absent a = unseen a.0 a.1 refl
-  looked p (Refused why) a = seen a.0.0 a.0.1 a.0.2 (Bad why) (a.0.3, a.1) refl
+  looked : (r : Result (Option Position) Why) → FindsIn v n k r → Looked r
+  looked (Ok (Some p)) a = seen a.0 a.1 a.2 (Ok p) a.3 refl
+  looked (Ok None) a = unseen a refl
+  looked (Err why) a = seen a.0 a.1 a.2 (Err why) a.3 refl
 
-  looked_one : Table false v n → (p q : Position) (s r : Sought) → Looked p s → Looked q r → (p ≡ q) × (s ≡ r)
-  looked_one t p q s r (seen i h x j a d) (seen l g y m b e) =
+  looked_one : Table false v n → (s r : Result (Option Position) Why) → Looked s → Looked r → s ≡ r
+  looked_one t s r (seen i h x j a d) (seen l g y m b e) =
       let z = one_row false v n t l i g h (y ∙ sym x) in
-      let c = reads_one v n i p q j m a (subst (λ (f : ℕ). ReadsBy v n f q m) z b) in
-      (c.0, d ∙ ap sought_of c.1 ∙ sym e)
-  looked_one t p q s r (seen i h x _ _ _) (unseen f _ _) = absurd (f i h x)
-  looked_one t p q s r (unseen f _ _) (seen i h x _ _ _) = absurd (f i h x)
-  looked_one t p q s r (unseen _ a d) (unseen _ b e) = (a ∙ sym b, d ∙ sym e)
+      d ∙ ap sought_of (reads_one v n i j m a (subst (λ (f : ℕ). Reads v n f m) z b)) ∙ sym e
+  looked_one t s r (seen i h x _ _ _) (unseen f _) = absurd (f i h x)
+  looked_one t s r (unseen f _) (seen i h x _ _ _) = absurd (f i h x)
+  looked_one t s r (unseen _ d) (unseen _ e) = d ∙ sym e
 
-pub finds_one : (v : List ℕ) (k : ℕ) (r s : Found) → Finds v k r → Finds v k s → r ≡ s
-finds_one v k r s (spoilt w i a d) (spoilt u j b e) =
-    let z = spoilt_one false v i j w u a b in d ∙ (λ x. record { sought = Refused (Contents (z.1 x) (z.0 x)); board = no_position }) ∙ sym e
+pub finds_one : (v : List ℕ) (k : ℕ) (r s : Result (Option Position) Why) → Finds v k r → Finds v k s → r ≡ s
+finds_one v k r s (spoilt w i a d) (spoilt u j b e) = let z = spoilt_one false v i j w u a b in d ∙ (λ x. Err (Contents (z.1 x) (z.0 x))) ∙ sym e
 finds_one v k r s (spoilt w i a d) (sound m u b) = absurd (sound_spoilt false v m i w u a)
 finds_one v k r s (sound n t a) (spoilt u j b e) = absurd (sound_spoilt false v n j u t b)
 finds_one v k r s (sound n t a) (sound m u b) =
     let e = table_one false v n m t u in
-    let c = looked v m k r.board r.sought (subst (λ (l : ℕ). FindsBy v l k r.board r.sought) e a) in
-    let z = looked_one v m k u r.board s.board r.sought s.sought c (looked v m k s.board s.sought b) in
-    λ x. record { sought = z.1 x; board = z.0 x }
+    looked_one v m k u r s (looked v m k r (subst (λ (l : ℕ). FindsIn v l k r) e a)) (looked v m k s b)
 
 -- a volume is refused, or has its lines
 data Parts (v : List ℕ) : Type 0 where
@@ -136,14 +125,14 @@ data Parts (v : List ℕ) : Type 0 where
   good : (n : ℕ) (ps : List Position) → Whole true v n ps → Parts v
 
 abbrev answer_by : List Position → List ℕ → Bool → Answer
-answer_by ps o true = (Unwritten (Room (length (lines_of ps))), o)
-answer_by ps o false = (Count (length (lines_of ps)), lines_of ps ++ drop (length (lines_of ps)) o)
+answer_by ps o true = (Err (Room (length (lines_of ps))), o)
+answer_by ps o false = (Ok (length (lines_of ps)), lines_of ps ++ drop (length (lines_of ps)) o)
 
 lines_answer : List Position → List ℕ → Answer
 lines_answer ps o = answer_by ps o (ltb (length o) (length (lines_of ps)))
 
 abbrev answer : (v o : List ℕ) → Parts v → Answer
-answer v o (bad why j) = (Unwritten why, o)
+answer v o (bad why j) = (Err why, o)
 answer v o (good n ps w) = lines_answer ps o
 
 parts : (v o : List ℕ) (r : Written) (x : List ℕ) → Unmakes v o r x → (p : Parts v) × Is r x (answer v o p)
@@ -153,7 +142,7 @@ parts v o r x (narrow n ps w h e d) = (good n ps w, rw (lt-ltb _ _ h) (e, d))
 parts v o r x (lined n ps w h e d) = (good n ps w, rw (le-ltb _ _ h) (e, d))
 
 parts_one : (v o : List ℕ) (p q : Parts v) → answer v o p ≡ answer v o q
-parts_one v o (bad w a) (bad u b) = let e = judged_one true v w u a b in λ i. (Unwritten (e i), o)
+parts_one v o (bad w a) (bad u b) = let e = judged_one true v w u a b in λ i. (Err (e i), o)
 parts_one v o (bad w a) (good n ps b) = absurd (judged_whole true v w n ps a b)
 parts_one v o (good n ps b) (bad w a) = absurd (judged_whole true v w n ps a b)
 parts_one v o (good n ps a) (good m qs b) = ap (λ (z : List Position). lines_answer z o) (whole_one true v n m ps qs a b).1

@@ -1,26 +1,16 @@
 -- What is read of a volume: its table, then its boards row by row; one problem; and old lines.
-use Rattle.std.specs.Prelude.{◌≡◌, Bool, true, false, List, [], ◌∷◌, ◌++◌, ℕ, suc, ◌+◌, ◌≤◌, ◌<◌, length, take, drop, Err}
+use Rattle.std.specs.Prelude.{◌≡◌, Option, Some, None, Result, Ok, Err, Bool, true, false, List, [], ◌∷◌, ◌++◌, ℕ, suc, ◌+◌, ◌≤◌, ◌<◌, length, take, drop}
 use Rattle.laws.specs.declared.Position.{Position}
 use Rattle.refusal.specs.declared.Refusal.{Refusal}
 use Rattle.accept.specs.Verdicts.{judged_of}
-use Rattle.position.specs.Answers.{no_position}
 use Rattle.volume_body.specs.Layout.{Embodies}
 use Rattle.volume_contents.specs.declared.Flaw.{Flaw}
 use Rattle.volume_contents.specs.declared.Why.{Why}
 use Rattle.volume_contents.specs.declared.Why.TheVariants.{Contents, Body, Board as board, Room}
-use Rattle.volume_contents.specs.declared.Written.{Written}
-use Rattle.volume_contents.specs.declared.Written.TheVariants.{Count, Refused as Unwritten}
+use Rattle.volume_contents.specs.Refusing.{Written}
 use Rattle.volume_contents.specs.Layout.{edition_byte, body_place}
 use Rattle.volume_contents.specs.Contents.{row_at, Table, Spoilt}
 use Rattle.volume_lines.specs.Register.{lines_of}
-use Rattle.volume_read.specs.declared.Judged.{Judged as Verdict}
-use Rattle.volume_read.specs.declared.Judged.TheVariants.{Accepted as Good, Refused as Bad}
-use Rattle.volume_read.specs.declared.Read.{Read}
-use Rattle.volume_read.specs.declared.Checked.{Checked}
-use Rattle.volume_read.specs.declared.Checked.TheVariants.{Problems, Refused as Unchecked}
-use Rattle.volume_read.specs.declared.Found.{Found}
-use Rattle.volume_read.specs.declared.Sought.{Sought}
-use Rattle.volume_read.specs.declared.Sought.TheVariants.{Found as There, Absent, Refused}
 use Rattle.refusal.specs.Refusals.{nothing_refused}
 
 -- the bytes of the body i of n
@@ -40,16 +30,10 @@ pub data Fails (v : List ℕ) (n i : ℕ) : Why → Type 0 where
   bodiless : ((p : Position) → HasBoard v n i p → ⊥) → Fails v n i (Body (i + 1))
   unjudged : (p : Position) (w : Refusal) → HasBoard v n i p → judged_of p ≡ Err w → Fails v n i (board w (i + 1))
 
--- a row that is refused: "A refusal .. returns no board"
-abbrev pub unread : Why → Read
-unread why = record { judged = Bad why; board = no_position }
-
-abbrev pub ReadsBy : List ℕ → ℕ → ℕ → Position → Verdict → Type 0
-ReadsBy v n i p Good = Passes v n i p
-ReadsBy v n i p (Bad why) = Fails v n i why × (p ≡ no_position)
-
-abbrev pub Reads : List ℕ → ℕ → ℕ → Read → Type 0
-Reads v n i r = ReadsBy v n i r.board r.judged
+-- a row that is read: its board, or why it is refused
+abbrev pub Reads : List ℕ → ℕ → ℕ → Result Position Why → Type 0
+Reads v n i (Ok p) = Passes v n i p
+Reads v n i (Err why) = Fails v n i why
 
 -- the rows from i on have the boards ps, which pass 1 to 6
 abbrev pub Boards : List ℕ → ℕ → ℕ → List Position → Type 0
@@ -67,31 +51,26 @@ pub record Whole (back : Bool) (v : List ℕ) (n : ℕ) (ps : List Position) : T
   pub boards : Boards v n 0 ps
   pub count : length ps ≡ n
 
-abbrev pub Checks : List ℕ → Checked → Type 0
-Checks v (Problems n) = (ps : List Position) × Whole false v n ps
-Checks v (Unchecked why) = Judged false v why
+-- how many problems a volume has, or why it is refused
+abbrev pub Checks : List ℕ → Result ℕ Why → Type 0
+Checks v (Ok n) = (ps : List Position) × Whole false v n ps
+Checks v (Err why) = Judged false v why
 
--- the problem with the number k, in a volume of n rows whose table is sound
-abbrev pub FindsBy : List ℕ → ℕ → ℕ → Position → Sought → Type 0
-FindsBy v n k p There = (i : ℕ) × (i < n) × ((row_at v i).number ≡ k) × Passes v n i p
-FindsBy v n k p Absent = ((i : ℕ) → i < n → (row_at v i).number ≡ k → ⊥) × (p ≡ no_position)
-FindsBy v n k p (Refused why) = ((i : ℕ) × (i < n) × ((row_at v i).number ≡ k) × Fails v n i why) × (p ≡ no_position)
+-- the problem with the number k, in a volume of n rows whose table is sound: its board, or none where no row has the number, or why its row is refused
+abbrev pub FindsIn : List ℕ → ℕ → ℕ → Result (Option Position) Why → Type 0
+FindsIn v n k (Ok (Some p)) = (i : ℕ) × (i < n) × ((row_at v i).number ≡ k) × Passes v n i p
+FindsIn v n k (Ok None) = (i : ℕ) → i < n → (row_at v i).number ≡ k → ⊥
+FindsIn v n k (Err why) = (i : ℕ) × (i < n) × ((row_at v i).number ≡ k) × Fails v n i why
 
-abbrev pub FindsIn : List ℕ → ℕ → ℕ → Found → Type 0
-FindsIn v n k r = FindsBy v n k r.board r.sought
-
-abbrev pub not_found : Found
-not_found = record { sought = Absent; board = no_position }
-
-pub data Finds (v : List ℕ) (k : ℕ) (r : Found) : Type 0 where
-  spoilt : (w : Flaw) (row : ℕ) → Spoilt false v row w → r ≡ record { sought = Refused (Contents w row); board = no_position } → Finds v k r
+pub data Finds (v : List ℕ) (k : ℕ) (r : Result (Option Position) Why) : Type 0 where
+  spoilt : (w : Flaw) (row : ℕ) → Spoilt false v row w → r ≡ Err (Contents w row) → Finds v k r
   sound : (n : ℕ) → Table false v n → FindsIn v n k r → Finds v k r
 
 -- a volume v back into a slice that holds o: the answer r, and what the slice then holds
 pub data Unmakes (v o : List ℕ) (r : Written) (x : List ℕ) : Type 0 where
-  refuses : (why : Why) → Judged true v why → r ≡ Unwritten why → x ≡ o → Unmakes v o r x
+  refuses : (why : Why) → Judged true v why → r ≡ Err why → x ≡ o → Unmakes v o r x
   -- 13, with the number of bytes needed
-  narrow : (n : ℕ) (ps : List Position) → Whole true v n ps → length o < length (lines_of ps) → r ≡ Unwritten (Room (length (lines_of ps))) → x ≡ o → Unmakes v o r x
+  narrow : (n : ℕ) (ps : List Position) → Whole true v n ps → length o < length (lines_of ps) → r ≡ Err (Room (length (lines_of ps))) → x ≡ o → Unmakes v o r x
   -- the lines, and what stood beyond
-  lined : (n : ℕ) (ps : List Position) → Whole true v n ps → length (lines_of ps) ≤ length o → r ≡ Count (length (lines_of ps))
+  lined : (n : ℕ) (ps : List Position) → Whole true v n ps → length (lines_of ps) ≤ length o → r ≡ Ok (length (lines_of ps))
       → x ≡ lines_of ps ++ drop (length (lines_of ps)) o → Unmakes v o r x

@@ -2,31 +2,26 @@
 ghost use Rattle.std.specs.Prelude.{◌≡◌, false, [], ◌∷◌, ◌<◌};
 ghost use Rattle.men_field.specs.inner.Lines.{Holds};
 ghost use Rattle.volume_contents.specs.Contents.{Table as Sound};
-ghost use Rattle.volume_read.specs.Reading.{Reads, unread, FindsIn, not_found};
+ghost use Rattle.volume_read.specs.Reading.{Reads, FindsIn};
 ghost use Rattle.volume_read.specs.inner.Scanning.{TableOf, AnswersAt, Sized, Scanned, Fitted, LinesIn};
 
-use super::{Found, Judged, Read, Scan, Sought, Table};
+use laws::Position;
 use men_field::Line;
 use position_text::{Form, Raw};
-use volume_contents::{Tested, Why};
+use volume_contents::Why;
 
-// 17: the number of rows, or the first test that fails. `back` asks for a table of old lines.
-pub fn contents(v: &[u8], back: bool) -> Table
+// How many rows a table has: refusal 17 for the first test that fails, with its row; the head is row 0. `back` asks for a table of old lines.
+pub fn contents(v: &[u8], back: bool) -> Result<usize, Why>
     ensures { TableOf back v.now result }
 {
-    let h = volume_contents::inner::tests::head(v, v.len());
-    match h {
-        Tested::Flawed(w) => Table::Bad(w, 0),
-        Tested::Sound => {
-            let n = volume_contents::inner::problems(v);
-            let w = volume_contents::inner::walk(v, 6, n, n, 0, 0, back);
-            let t = w.tested;
-            match t {
-                Tested::Flawed(f) => Table::Bad(f, w.rows + 1),
-                Tested::Sound => Table::Rows(n),
-            }
-        }
+    if let Err(flaw) = volume_contents::inner::tests::head(v, v.len()) {
+        return Err(Why::Contents(flaw, 0));
     }
+    let n = volume_contents::inner::problems(v);
+    if let Err((flaw, i)) = volume_contents::inner::walk(v, 6, n, n, 0, 0, back) {
+        return Err(Why::Contents(flaw, i + 1));
+    }
+    Ok(n)
 }
 
 // What the body i of n says, in the edition of its row.
@@ -41,100 +36,55 @@ fn board_at(v: &[u8], n: usize, i: usize) -> Raw
     volume_body::inner::read_body(&v[at..end], edition)
 }
 
-// A row that is refused.
-fn refused(why: Why) -> Read
-    ensures { result ≡ unread why }
-{
-    let none = position::inner::nothing();
-    Read {
-        judged: Judged::Refused(why),
-        board: none,
-    }
-}
-
 // The board of the row i of n: 18, then 1 to 6.
-fn board(v: &[u8], n: usize, i: usize) -> Read
+fn board(v: &[u8], n: usize, i: usize) -> Result<Position, Why>
     requires { Sized v.now n × (i < n) }
     ensures { Reads v.now n i result }
 {
     let raw = board_at(v, n, i);
     let form = raw.form;
     match form {
-        Form::OutOfForm => refused(Why::Body(i + 1)),
+        Form::OutOfForm => Err(Why::Body(i + 1)),
         Form::InForm => {
             let p = raw.position;
             let verdict = accept::inner::judge(p);
             match verdict {
-                Err(w) => refused(Why::Board(w, i + 1)),
-                Ok(()) => Read {
-                    judged: Judged::Accepted,
-                    board: p,
-                },
+                Err(w) => Err(Why::Board(w, i + 1)),
+                Ok(()) => Ok(p),
             }
         }
     }
 }
 
-// No row has the number.
-fn absent() -> Found
-    ensures { result ≡ not_found }
-{
-    let none = position::inner::nothing();
-    Found {
-        sought: Sought::Absent,
-        board: none,
-    }
-}
-
 // One problem by its number, of a volume whose table is sound: no other body is read, and few rows.
-pub fn problem(v: &[u8], n: usize, number: usize) -> Found
+pub fn problem(v: &[u8], n: usize, number: usize) -> Result<Option<Position>, Why>
     requires { (n < 65536) × Sound false v.now n }
     ensures { FindsIn v.now n number result }
 {
     let i = volume_contents::inner::find(v, 6, n, number);
     if i >= n {
-        return absent();
+        return Ok(None);
     }
     let row = volume_contents::inner::entry(v, 6 + 8 * i);
     if row.number != number {
-        return absent();
+        return Ok(None);
     }
-    let b = board(v, n, i);
-    let j = b.judged;
-    let p = b.board;
-    match j {
-        Judged::Refused(w) => Found {
-            sought: Sought::Refused(w),
-            board: p,
-        },
-        Judged::Accepted => Found {
-            sought: Sought::Found,
-            board: p,
-        },
-    }
+    let p = board(v, n, i)?;
+    Ok(Some(p))
 }
 
-// 18, then 1 to 6, row by row; and how many bytes the lines have.
-pub fn scan(v: &[u8], n: usize) -> Scan
+// How many bytes the lines have: 18, then 1 to 6, row by row.
+pub fn scan(v: &[u8], n: usize) -> Result<usize, Why>
     requires { Sized v.now n }
     ensures { Scanned v.now n result }
 {
     let mut size = 0;
-    let mut i = 0;
-    while i < n {
-        let b = board(v, n, i);
-        let j = b.judged;
-        match j {
-            Judged::Refused(w) => {
-                return Scan::Refused(w);
-            }
-            Judged::Accepted => {}
-        }
-        let l = position_text::inner::line_of(b.board);
+    for i in 0..n {
+        let p = board(v, n, i)?;
+        let l = position_text::inner::line_of(p);
         size = size + l.len + 1;
-        i += 1;
     }
-    Scan::Good(size)
+    Ok(size)
 }
 
 fn newline() -> Line
@@ -153,14 +103,12 @@ pub fn put_lines(v: &[u8], out: &mut [u8], n: usize)
     ensures { LinesIn v.now n out.old out.new }
 {
     let mut to = 0;
-    let mut i = 0;
-    while i < n {
+    for i in 0..n {
         let raw = board_at(v, n, i);
         let l = position_text::inner::line_of(raw.position);
         let end = to + l.len;
         volume_make::inner::put(out, to, l);
         volume_make::inner::put(out, end, newline());
         to = end + 1;
-        i += 1;
     }
 }

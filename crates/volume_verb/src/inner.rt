@@ -5,8 +5,7 @@ ghost use Rattle.puts.specs.inner.Growing.{Grows};
 
 use laws::{Edition, Position};
 use position_text::Form;
-use volume_contents::{Why, Written};
-use volume_read::{Checked, Found, Sought};
+use volume_contents::Why;
 
 mod bytes; // bytes.rt: bytes in hexadecimal, read and put
 mod refusals; // refusals.rt: why a volume is refused, put
@@ -52,7 +51,7 @@ fn put_converted(back: bool, given: &[u8], slice: &mut [u8], out: &mut [u8; 6553
     put_written(w, slice, out)
 }
 
-fn converted(back: bool, given: &[u8], slice: &mut [u8]) -> Written {
+fn converted(back: bool, given: &[u8], slice: &mut [u8]) -> Result<usize, Why> {
     if back {
         volume_read::to_lines(given, slice)
     } else {
@@ -130,12 +129,12 @@ fn room(line: &[u8], at: usize) -> usize
 }
 
 // What was written, or why nothing was.
-fn put_written(w: Written, slice: &[u8], out: &mut [u8; 65536]) -> usize
+fn put_written(w: Result<usize, Why>, slice: &[u8], out: &mut [u8; 65536]) -> usize
     ensures { Grows 0 result }
 {
     match w {
-        Written::Count(n) => bytes::put_front(slice, n, out),
-        Written::Refused(why) => refusals::put(why, out),
+        Ok(n) => bytes::put_front(slice, n, out),
+        Err(why) => refusals::put(why, out),
     }
 }
 
@@ -147,12 +146,12 @@ fn contents(line: &[u8], at: usize, out: &mut [u8; 65536]) -> usize
     put_checked(volume_read::check(bytes::first(&volume, n)), out)
 }
 
-fn put_checked(c: Checked, out: &mut [u8; 65536]) -> usize
+fn put_checked(c: Result<usize, Why>, out: &mut [u8; 65536]) -> usize
     ensures { Grows 0 result }
 {
     match c {
-        Checked::Problems(n) => puts::inner::number(out, 0, n as u64),
-        Checked::Refused(why) => refusals::put(why, out),
+        Ok(n) => puts::inner::number(out, 0, n as u64),
+        Err(why) => refusals::put(why, out),
     }
 }
 
@@ -165,17 +164,13 @@ fn problem(line: &[u8], at: usize, out: &mut [u8; 65536]) -> usize
     put_found(volume_read::problem(bytes::first(&volume, n), number), out)
 }
 
-fn put_found(f: Found, out: &mut [u8; 65536]) -> usize
+fn put_found(f: Result<Option<Position>, Why>, out: &mut [u8; 65536]) -> usize
     ensures { Grows 0 result }
 {
-    let s = f.sought;
-    match s {
-        Sought::Absent => puts::inner::bytes(out, 0, b"absent"),
-        Sought::Refused(why) => refusals::put(why, out),
-        Sought::Found => {
-            let p = f.board;
-            put_board(p, out)
-        }
+    match f {
+        Err(why) => refusals::put(why, out),
+        Ok(None) => puts::inner::bytes(out, 0, b"absent"),
+        Ok(Some(p)) => put_board(p, out),
     }
 }
 

@@ -13,13 +13,13 @@ use laws::{ChessRetraction, Color};
 pub fn put(out: &mut [u8], len: usize, bytes: &[u8]) -> usize
     ensures { Adds out.old len bytes.now result out.new }
 {
-    output::put_bytes(out, len, bytes).used(len)
+    output::put_bytes(out, len, bytes).unwrap_or(len)
 }
 
 fn put_number(out: &mut [u8], len: usize, x: u64) -> usize
     ensures { Adds out.old len (decimal_of x) result out.new }
 {
-    output::put_decimal(out, len, x).used(len)
+    output::put_decimal(out, len, x).unwrap_or(len)
 }
 
 // Words, and a number of at most 20 digits behind them.

@@ -4,12 +4,12 @@ use lib.ListN.{get_or, length}
 use mir.Syntax.{w64}
 use mir.Val.{Fits}
 use borrow.Author.Rules.{rules}
+use Rattle.std.specs.Prelude.{Ok}
 use Rattle.laws.specs.declared.Position.{Position}
 use Rattle.laws.specs.Boards.{pos_at, Clean}
 use Rattle.refusal.specs.Said.{behind}
 use Rattle.board.specs.Gate.{pos_on}
 use Rattle.board.proofs.Passing.{gate_sound}
-use Rattle.castling.specs.declared.Castling.TheVariants.{Attackers}
 use Rattle.castling.specs.Castlings.{uncastle_tests, way_before, castling_says}
 use Rattle.castling.proofs.Castlings.{gate_said}
 use Rattle.castling.proofs.attackers.Goals as goal
@@ -21,11 +21,11 @@ pub returns-in-Err : goal.returns-in-Err
 returns-in-Err c =
     let b = c.args.b in
     let d = c.args.side in
-    gate_said b (uncastle_tests (pos_on b) d) (castling_says (Attackers (way_before (pos_on b) d))) c.gate-v.ensures c.in-Err.is
+    gate_said b (uncastle_tests (pos_on b) d) (castling_says (Ok (way_before (pos_on b) d))) c.gate-v.ensures c.in-Err.is
 
 pub returns-in-Ok : goal.returns-in-Ok
 returns-in-Ok c =
     let b = c.args.b in
     let d = c.args.side in
-    c.uncastled.ensures ∙ ap (λ (q : Position). behind (uncastle_tests (pos_at q) d) (castling_says (Attackers (way_before (pos_at q) d)))) c.position_of-p.ensures
-    ∙ gate_said b (uncastle_tests (pos_on b) d) (castling_says (Attackers (way_before (pos_on b) d))) c.gate-v.ensures c.in-Ok.is
+    c.uncastled.ensures ∙ ap (λ (q : Position). behind (uncastle_tests (pos_at q) d) (castling_says (Ok (way_before (pos_at q) d)))) c.position_of-p.ensures
+    ∙ gate_said b (uncastle_tests (pos_on b) d) (castling_says (Ok (way_before (pos_on b) d))) c.gate-v.ensures c.in-Ok.is

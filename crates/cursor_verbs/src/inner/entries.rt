@@ -24,13 +24,8 @@ fn put_cursor(g: RetractionGen, out: &mut [u8; 65536]) -> usize
     let masks = g.masks;
     let entries = g.entries;
     let mut n = puts::inner::sets(out, 0, masks);
-    let mut i = 0;
-    while i < 47 {
-        if i >= g.len {
-            return n;
-        }
-        n = put_entry(entries[i], out, n);
-        i += 1;
+    for e in entries.iter().take(g.len) {
+        n = put_entry(*e, out, n);
     }
     n
 }
@@ -55,7 +50,7 @@ pub(super) fn put_rest(e: SourceAndTargets, out: &mut [u8; 65536], len: usize) -
     puts::inner::bytes(out, b, &end)
 }
 
-pub(super) fn letter(kind: UnCaptureKind) -> u8 {
+fn letter(kind: UnCaptureKind) -> u8 {
     match kind {
         UnCaptureKind::Optional => b'O',
         UnCaptureKind::Necessary => b'N',

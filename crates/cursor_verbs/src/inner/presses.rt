@@ -57,14 +57,12 @@ fn read_entries(line: &[u8], from: usize) -> [SourceAndTargets; 47] {
     };
     let mut entries = [none; 47];
     let mut at = from;
-    let mut i: usize = 0;
-    while i < 47 {
+    for _ in 0..47 {
         let place = place_at(line, at);
         if place < 47 {
             entries[place] = read_entry(line, at);
         }
         at = fields::inner::after(line, at, b' ');
-        i += 1;
     }
     entries
 }
@@ -129,10 +127,8 @@ fn put_places(g: RetractionGen, out: &mut [u8; 65536], len: usize) -> usize
 {
     let entries = g.entries;
     let mut n = len;
-    let mut i = 0;
-    while i < 47 {
-        n = put_place(i, entries[i], out, n);
-        i += 1;
+    for (i, e) in entries.iter().enumerate() {
+        n = put_place(i, *e, out, n);
     }
     n
 }
@@ -140,9 +136,8 @@ fn put_places(g: RetractionGen, out: &mut [u8; 65536], len: usize) -> usize
 fn put_place(place: usize, e: SourceAndTargets, out: &mut [u8; 65536], len: usize) -> usize
     ensures { Grows len result }
 {
-    let kind = e.kind;
-    let letter = entries::letter(kind);
-    if (e.source == 0) & (e.targets == 0) & (letter == b'O') & !e.unpromotion {
+    let optional = matches!(e.kind, UnCaptureKind::Optional);
+    if e.source == 0 && e.targets == 0 && optional && !e.unpromotion {
         return len;
     }
     let a = puts::inner::next_number(out, len, place as u64);

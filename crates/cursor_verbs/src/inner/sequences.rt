@@ -24,14 +24,15 @@ fn put_presses(lent: bool, mut g: RetractionGen, out: &mut [u8; 65536]) -> usize
 {
     let mut n = 0;
     let mut ends = 0;
-    let mut turns: u64 = 20000;
-    while turns > 0 && ends < 3 {
+    for _ in 0..20000 {
         let s = super::moved_on(lent, g);
         let answer = s.next;
         g = s.cursor;
         n = put_press(answer, out, n);
         ends = ends_with(answer, ends);
-        turns -= 1;
+        if ends == 3 {
+            break;
+        }
     }
     n
 }

@@ -1,19 +1,21 @@
 -- `desks::fetch` meets its contract.
-use mathlib.Core.Path.{refl, sym, ◌∙◌}
+use Rattle.std.proofs.Common.{◌≡◌, Err, refl, sym, ◌∙◌, rules}
 use Rattle.refusal.specs.Said.{first_failing}
 use Rattle.desks.specs.Desks.{fetch}
 use Rattle.desks.proofs.Standing.{refused, has_places, answered}
 use Rattle.desks.proofs.fetch.Goals as goal
 use Rattle.refusal.specs.Refusals.{nothing_refused}
 
+pub returns-in_err-first : goal.returns-in_err-first
+unfolding first_failing
+returns-in_err-first c =
+    let e : c.from_residual.result ≡ Err c.in_err-first.field-0.0 = search rules in
+    rw e (refused c.args.table.now c.args.desk (fetch c.args.number) nothing_refused refl _ (sym c.stand.ensures ∙ c.in_err-first.was))
+
 pub fetch_at-requires : goal.fetch_at-requires
 unfolding first_failing
-fetch_at-requires c = has_places c.args.table.now c.args.desk (fetch c.args.number) nothing_refused refl _ _ (sym c.stand-st.ensures ∙ c.in-At.is)
+fetch_at-requires c = has_places c.args.table.now c.args.desk (fetch c.args.number) nothing_refused refl _ _ (sym c.stand.ensures ∙ c.in_ok-first.was)
 
-pub returns-in-Refused : goal.returns-in-Refused
+pub returns : goal.returns
 unfolding first_failing
-returns-in-Refused c = rw c.not_fetched.ensures (refused c.args.table.now c.args.desk (fetch c.args.number) nothing_refused refl _ (sym c.stand-st.ensures ∙ c.in-Refused.is))
-
-pub returns-in-At : goal.returns-in-At
-unfolding first_failing
-returns-in-At c = answered c.args.table.now c.args.desk (fetch c.args.number) nothing_refused refl _ _ (sym c.stand-st.ensures ∙ c.in-At.is) c.fetch_at.ensures
+returns c = answered c.args.table.now c.args.desk (fetch c.args.number) nothing_refused refl _ _ (sym c.stand.ensures ∙ c.in_ok-first.was) c.fetch_at.ensures

@@ -3,26 +3,27 @@ ghost use Rattle.puts.specs.inner.Growing.{Grows};
 
 use super::Question;
 use board::AttackersTold;
-use castling::Castling;
+use castling::KingsWay;
 use laws::Side;
+use refusal::Refusal;
 
 // `at` is the place of the text.
-pub(super) fn asked(line: &[u8], at: usize) -> Question {
+pub(super) fn asked(line: &[u8], at: usize) -> Option<Question> {
     let first = fields::inner::after(line, at, b'\t');
     if fields::inner::starts(line, b"attackers\t") {
         let color = fields::inner::turn(fields::inner::byte(
             line,
             fields::inner::after(line, first, b'\t'),
         ));
-        return Question::Attackers(fields::inner::decimal(line, first), color);
+        return Some(Question::Attackers(fields::inner::decimal(line, first), color));
     }
     if fields::inner::starts(line, b"checkers\t") {
-        return Question::Checkers;
+        return Some(Question::Checkers);
     }
     if fields::inner::starts(line, b"castling\t") {
-        return Question::Castling(side(fields::inner::byte(line, first)));
+        return Some(Question::Castling(side(fields::inner::byte(line, first))));
     }
-    Question::Nothing
+    None
 }
 
 // `k` or `q`.
@@ -42,24 +43,23 @@ pub(super) fn put_squares(out: &mut [u8; 65536], len: usize, set: u64) -> usize
 pub(super) fn put_attackers(told: AttackersTold, out: &mut [u8; 65536]) -> usize
     ensures { Grows 0 result }
 {
-    let a = told.answer;
-    match a {
+    match told.answer {
         Ok(men) => put_squares(out, 0, men),
         Err(r) => puts::inner::refused(r, out),
     }
 }
 
 // Out of, through and into, tabs between.
-pub(super) fn put_castling(told: Castling, out: &mut [u8; 65536]) -> usize
+pub(super) fn put_castling(told: Result<KingsWay, Refusal>, out: &mut [u8; 65536]) -> usize
     ensures { Grows 0 result }
 {
     match told {
-        Castling::Attackers(way) => {
+        Ok(way) => {
             let home = put_squares(out, 0, way.home);
             let crossed = put_next(out, home, way.crossed);
             put_next(out, crossed, way.reached)
         }
-        Castling::Refused(r) => puts::inner::refused(r, out),
+        Err(r) => puts::inner::refused(r, out),
     }
 }
 

@@ -5,7 +5,7 @@ ghost use Rattle.puts.specs.inner.Growing.{Grows};
 use board::RetractableBoard;
 use refusal::Refusal;
 use retraction_gen::RetractionGen;
-use slots::Listed;
+use slots::Unlisted;
 
 // The number of entries of the board's cursor, then the ported list.
 pub(super) fn put_ported(t: &[u64; 4096], b: RetractableBoard, out: &mut [u8; 65536]) -> usize
@@ -35,24 +35,24 @@ pub(super) fn put_strict(t: &[u64; 4096], b: RetractableBoard, out: &mut [u8; 65
     put_listed(l, counted(l), &slots, out)
 }
 
-fn counted(l: Listed) -> usize {
+fn counted(l: Result<usize, Unlisted>) -> usize {
     match l {
-        Listed::Count(n) => n,
-        Listed::Room(_) => 0,
-        Listed::Refused(_) => 0,
+        Ok(n) => n,
+        Err(Unlisted::Room(_)) => 0,
+        Err(Unlisted::Refused(_)) => 0,
     }
 }
 
-fn put_listed(l: Listed, first: usize, slots: &[u16], out: &mut [u8; 65536]) -> usize
+fn put_listed(l: Result<usize, Unlisted>, first: usize, slots: &[u16], out: &mut [u8; 65536]) -> usize
     ensures { Grows 0 result }
 {
     match l {
-        Listed::Count(n) => {
+        Ok(n) => {
             let len = puts::inner::number(out, 0, first as u64);
             put_members(slots, n, out, len)
         }
-        Listed::Room(_) => puts::inner::refused(Refusal::Room, out),
-        Listed::Refused(r) => puts::inner::refused(r, out),
+        Err(Unlisted::Room(_)) => puts::inner::refused(Refusal::Room, out),
+        Err(Unlisted::Refused(r)) => puts::inner::refused(r, out),
     }
 }
 
@@ -61,13 +61,8 @@ fn put_members(slots: &[u16], count: usize, out: &mut [u8; 65536], len: usize) -
     ensures { Grows len result }
 {
     let mut n = len;
-    let mut i = 0;
-    while i < slots.len() {
-        if i >= count {
-            return n;
-        }
-        n = puts::inner::next_number(out, n, slots[i] as u64);
-        i += 1;
+    for slot in slots.iter().take(count) {
+        n = puts::inner::next_number(out, n, u64::from(*slot));
     }
     n
 }

@@ -2,7 +2,7 @@
 ghost use Rattle.puts.specs.inner.Growing.{Grows};
 
 use board::RetractableBoard;
-use records::{Outcome, Recorded, Written};
+use records::{Outcome, Recorded, Unwritten};
 use refusal::Refusal;
 
 // The text and both counters, tabs between.
@@ -34,8 +34,8 @@ pub(super) fn put_record(b: RetractableBoard, half: u16, full: u16, out: &mut [u
     let mut record = [0u8; 96];
     let w = records::write(b, half, full, &mut record);
     match w {
-        Written::Count(n) => puts::inner::front(out, 0, &record, n),
-        Written::Room(_) => puts::inner::refused(Refusal::Room, out),
-        Written::Refused(why) => puts::inner::refused_by(out, 0, records::number(why)),
+        Ok(n) => puts::inner::front(out, 0, &record, n),
+        Err(Unwritten::Room(_)) => puts::inner::refused(Refusal::Room, out),
+        Err(Unwritten::Refused(why)) => puts::inner::refused_by(out, 0, records::number(why)),
     }
 }

@@ -1,21 +1,23 @@
 -- `limited::sides` meets its contract.
 use mathlib.Core.Path.{sym, ap, ◌∙◌}
+use mathlib.Core.Bool.{Bool, true, false}
+use Rattle.std.specs.Prelude.{Ok, Err}
+use Rattle.refusal.proofs.Saying.{handed_on}
 use Rattle.limited.specs.Limiting.{limited_says, sides_of}
 use Rattle.limited.proofs.Fitting.{side_then, flip_whole}
 use Rattle.limited.proofs.sides.Goals as goal
-use Rattle.std.specs.Prelude.{Ok, true, Err, false}
 
-pub side-requires : goal.side-requires
-side-requires c = (c.requires.0, rw c.flip.ensures (flip_whole _ c.requires.1))
+pub side-requires-2 : goal.side-requires-2
+side-requires-2 c = (c.requires.0, rw c.flip.ensures (flip_whole _ c.requires.1))
 
-pub returns-in-Yes : goal.returns-in-Yes
+pub returns-in_err-side : goal.returns-in_err-side
 unfolding sides_of
-returns-in-Yes c = side_then _ _ (Ok true) (ap limited_says (sym c.in-Yes.is) ∙ c.side-first.ensures)
+returns-in_err-side c = rw (handed_on _ _ c.from_residual.ensures.1) (side_then _ _ (Err _) c.in_err-side.ensures)
 
-pub returns-in-Refused : goal.returns-in-Refused
+pub returns-then-branch : goal.returns-then-branch
 unfolding sides_of
-returns-in-Refused c = side_then _ _ (Err c.in-Refused.why) (ap limited_says (sym c.in-Refused.is) ∙ c.side-first.ensures)
+returns-then-branch c = side_then _ _ (Ok true) (ap (λ (t : Bool). limited_says (Ok t)) (sym c.if-branch.true) ∙ c.in_ok-side.ensures)
 
-pub returns-in-No : goal.returns-in-No
+pub returns : goal.returns
 unfolding sides_of
-returns-in-No c = rw (c.side.ensures, c.flip.ensures) (side_then _ _ (Ok false) (ap limited_says (sym c.in-No.is) ∙ c.side-first.ensures))
+returns c = rw (c.side-2.ensures, c.flip.ensures) (side_then _ _ (Ok false) (ap (λ (t : Bool). limited_says (Ok t)) (sym c.if-branch.false) ∙ c.in_ok-side.ensures))

@@ -2,15 +2,15 @@
 ghost use Rattle.puts.specs.inner.Growing.{Grows};
 
 use refusal::Refusal;
-use slots::Listed;
+use slots::Unlisted;
 
-pub(super) fn put_count(l: Listed, out: &mut [u8; 65536]) -> usize
+pub(super) fn put_count(l: Result<usize, Unlisted>, out: &mut [u8; 65536]) -> usize
     ensures { Grows 0 result }
 {
     match l {
-        Listed::Count(n) => puts::inner::number(out, 0, n as u64),
-        Listed::Room(n) => puts::inner::number(out, 0, n as u64),
-        Listed::Refused(r) => puts::inner::refused(r, out),
+        Ok(n) => puts::inner::number(out, 0, n as u64),
+        Err(Unlisted::Room(n)) => puts::inner::number(out, 0, n as u64),
+        Err(Unlisted::Refused(r)) => puts::inner::refused(r, out),
     }
 }
 

@@ -5,8 +5,8 @@ ghost use Rattle.puts.specs.inner.Growing.{Grows};
 
 use board::{Boarded, RetractableBoard};
 use refusal::Refusal;
-use slots::Listed;
-use text::Printed;
+use slots::Unlisted;
+use text::Unprinted;
 
 // `print TAB text TAB size`
 pub(super) fn print(t: &[u64; 4096], line: &[u8], out: &mut [u8; 65536]) -> usize
@@ -33,10 +33,10 @@ fn put_text(today: Boarded, slice: &mut [u8], out: &mut [u8; 65536]) -> usize
     puts::inner::bytes(out, b, b"]")
 }
 
-fn printed(today: Boarded, slice: &mut [u8]) -> Printed {
+fn printed(today: Boarded, slice: &mut [u8]) -> Result<usize, Unprinted> {
     let v = today.verdict;
     match v {
-        Err(r) => Printed::Refused(r),
+        Err(r) => Err(Unprinted::Refused(r)),
         Ok(()) => {
             let b = today.board;
             text::print(b, slice)
@@ -44,13 +44,13 @@ fn printed(today: Boarded, slice: &mut [u8]) -> Printed {
     }
 }
 
-fn put_printed(p: Printed, out: &mut [u8; 65536]) -> usize
+fn put_printed(p: Result<usize, Unprinted>, out: &mut [u8; 65536]) -> usize
     ensures { Grows 0 result }
 {
     match p {
-        Printed::Count(n) => puts::inner::number(out, 0, n as u64),
-        Printed::Room(n) => put_room(n, out),
-        Printed::Refused(r) => puts::inner::refused(r, out),
+        Ok(n) => puts::inner::number(out, 0, n as u64),
+        Err(Unprinted::Room(n)) => put_room(n, out),
+        Err(Unprinted::Refused(r)) => puts::inner::refused(r, out),
     }
 }
 
@@ -94,12 +94,12 @@ fn put_list(
     put_slots(slots, out, n)
 }
 
-fn listed(t: &[u64; 4096], strict: bool, today: Boarded, slots: &mut [u16]) -> Listed
+fn listed(t: &[u64; 4096], strict: bool, today: Boarded, slots: &mut [u16]) -> Result<usize, Unlisted>
     requires { IsBetween t.now }
 {
     let v = today.verdict;
     match v {
-        Err(r) => Listed::Refused(r),
+        Err(r) => Err(Unlisted::Refused(r)),
         Ok(()) => {
             let b = today.board;
             into(t, strict, b, slots)
@@ -108,7 +108,7 @@ fn listed(t: &[u64; 4096], strict: bool, today: Boarded, slots: &mut [u16]) -> L
 }
 
 // The strict list, or the ported one.
-fn into(t: &[u64; 4096], strict: bool, b: RetractableBoard, slots: &mut [u16]) -> Listed
+fn into(t: &[u64; 4096], strict: bool, b: RetractableBoard, slots: &mut [u16]) -> Result<usize, Unlisted>
     requires { IsBetween t.now }
 {
     if strict {
@@ -118,13 +118,13 @@ fn into(t: &[u64; 4096], strict: bool, b: RetractableBoard, slots: &mut [u16]) -
     }
 }
 
-fn put_listed(l: Listed, out: &mut [u8; 65536]) -> usize
+fn put_listed(l: Result<usize, Unlisted>, out: &mut [u8; 65536]) -> usize
     ensures { Grows 0 result }
 {
     match l {
-        Listed::Count(n) => puts::inner::number(out, 0, n as u64),
-        Listed::Room(n) => put_room(n, out),
-        Listed::Refused(r) => puts::inner::refused(r, out),
+        Ok(n) => puts::inner::number(out, 0, n as u64),
+        Err(Unlisted::Room(n)) => put_room(n, out),
+        Err(Unlisted::Refused(r)) => puts::inner::refused(r, out),
     }
 }
 
@@ -133,10 +133,8 @@ fn put_slots(slots: &[u16], out: &mut [u8; 65536], len: usize) -> usize
     ensures { Grows len result }
 {
     let mut n = puts::inner::bytes(out, len, b" [");
-    let mut i = 0;
-    while i < slots.len() {
-        n = puts::inner::member(out, n, i, slots[i] as u64);
-        i += 1;
+    for (i, slot) in slots.iter().enumerate() {
+        n = puts::inner::member(out, n, i, u64::from(*slot));
     }
     puts::inner::bytes(out, n, b"]")
 }

@@ -1,12 +1,10 @@
 -- Rows that stand in a slice from a place on, one by one.
-use Rattle.std.specs.Prelude.{◌≡◌, Bool, cond, List, ℕ, zero, suc, ◌+◌, ◌*◌, ◌≤◌, ◌<◌, eqb}
+use Rattle.std.specs.Prelude.{◌≡◌, Bool, cond, Result, Ok, Err, List, ℕ, zero, suc, ◌+◌, ◌*◌, ◌≤◌, ◌<◌, eqb}
 use Rattle.laws.specs.declared.Edition.{Edition}
 use Rattle.laws.specs.declared.Edition.TheVariants.{A, B}
-use Rattle.volume_contents.specs.declared.Tested.{Tested}
-use Rattle.volume_contents.specs.declared.Tested.TheVariants.{Sound, Flawed}
-use Rattle.volume_contents.specs.declared.Walked.{Walked}
+use Rattle.volume_contents.specs.declared.Flaw.{Flaw}
 use Rattle.volume_contents.specs.Layout.{entry_at}
-use Rattle.volume_contents.specs.Contents.{row_tested}
+use Rattle.volume_contents.specs.Contents.{Tested, row_tested}
 
 -- the edition of a byte; A of all but B's
 abbrev pub edition_of : ℕ → Edition
@@ -24,15 +22,14 @@ last_in last s at (suc j) = number_in s at j
 abbrev pub tested_in : Bool → ℕ → ℕ → ℕ → List ℕ → ℕ → ℕ → Tested
 tested_in back n from last s at j = row_tested back n (from + j) (last_in last s at j) (entry_at s (at + 8 * j))
 
--- the first of k rows that is not sound, or none
-abbrev pub Ends : Bool → ℕ → ℕ → ℕ → List ℕ → ℕ → ℕ → ℕ → Tested → Type 0
-Ends back n from last s at k j Sound = j ≡ k
-Ends back n from last s at k j (Flawed w) = (j < k) × (tested_in back n from last s at j ≡ Flawed w)
+-- the first j rows are sound
+abbrev pub SoundTo : Bool → ℕ → ℕ → ℕ → List ℕ → ℕ → ℕ → Type 0
+SoundTo back n from last s at j = (i : ℕ) → i < j → tested_in back n from last s at i ≡ Ok tt
 
-pub record WalksTo (back : Bool) (n from last : ℕ) (s : List ℕ) (at k : ℕ) (r : Walked) : Type 0 where
-  pub sound : (j : ℕ) → j < r.rows → tested_in back n from last s at j ≡ Sound
-  pub ends : Ends back n from last s at k r.rows r.tested
-  pub last_is : r.last ≡ last_in last s at r.rows
+-- all k rows are sound, and the last has a number; or the first that is not has a flaw, and a place
+abbrev pub WalksTo : Bool → ℕ → ℕ → ℕ → List ℕ → ℕ → ℕ → Result ℕ (Flaw × ℕ) → Type 0
+WalksTo back n from last s at k (Ok r) = SoundTo back n from last s at k × (r ≡ last_in last s at k)
+WalksTo back n from last s at k (Err f) = SoundTo back n from last s at f.1 × (f.1 < k) × (tested_in back n from last s at f.1 ≡ Err f.0)
 
 -- the numbers of k rows rise
 abbrev pub Rising : List ℕ → ℕ → ℕ → Type 0

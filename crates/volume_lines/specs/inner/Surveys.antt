@@ -1,15 +1,9 @@
 -- What is known of a slice whose lines were looked at, behind `count` lines with the verdict `before`.
 use Rattle.std.specs.Prelude.{◌≡◌, Bool, true, false, List, ◌++◌, ℕ, ◌+◌, ◌≤◌, ◌<◌, length, drop, get_or}
 use Rattle.laws.specs.declared.Position.{Position}
-use Rattle.position_text.specs.declared.Form.{Form}
-use Rattle.position_text.specs.declared.Form.TheVariants.{InForm, OutOfForm}
 use Rattle.volume_lines.specs.declared.Named.{Named}
 use Rattle.volume_lines.specs.declared.Survey.{Survey}
 use Rattle.volume_lines.specs.Register.{AllTold, lines_of, Starts, noted_of}
-
-abbrev pub is_in_form : Form → Bool
-is_in_form InForm = true
-is_in_form OutOfForm = false
 
 -- what stands from a place on has no newline, or starts with one line out of form
 abbrev pub EndsAt : List ℕ → ℕ → Bool → Type 0

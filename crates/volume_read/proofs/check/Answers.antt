@@ -1,19 +1,13 @@
+use Rattle.std.proofs.lemmas.Result.{err_from_is_err_and}
 use mathlib.Core.Bool.{false}
-use Rattle.volume_read.proofs.Told.{told_table, rows_sized, told_row, told_whole}
+use Rattle.volume_read.proofs.Told.{told_table, rows_sized, told_row}
 use Rattle.volume_read.proofs.check.Goals as goal
 
--- src/lib.rt:61:17
-pub scan-s-requires : goal.scan-s-requires
-scan-s-requires c = rows_sized false c.args.volume.now c.contents-t.result c.contents-t.ensures _ c.in-Rows.is
+pub returns-in_err-n : goal.returns-in_err-n
+returns-in_err-n c = let p = err_from_is_err_and c.from_residual.result c.from_residual.ensures.1 in rw (p.1, p.2) (told_table false c.args.volume.now _ c.in_err-n.ensures)
 
--- src/lib.rt:54:1
-pub returns-in-Bad : goal.returns-in-Bad
-returns-in-Bad c = told_table false c.args.volume.now c.contents-t.result c.contents-t.ensures _ _ c.in-Bad.is
+pub scan-requires : goal.scan-requires
+scan-requires c = rows_sized false c.args.volume.now _ c.in_ok-n.ensures
 
--- src/lib.rt:54:1
-pub returns-in-Refused : goal.returns-in-Refused
-returns-in-Refused c = told_row false c.args.volume.now c.contents-t.result c.contents-t.ensures _ c.in-Rows.is c.scan-s.result c.scan-s.ensures _ c.in-Refused.is
-
--- src/lib.rt:54:1
-pub returns-in-Good : goal.returns-in-Good
-returns-in-Good c = told_whole false c.args.volume.now c.contents-t.result c.contents-t.ensures _ c.in-Rows.is c.scan-s.result c.scan-s.ensures _ c.in-Good.is
+pub returns-in_err-scan : goal.returns-in_err-scan
+returns-in_err-scan c = let p = err_from_is_err_and c.from_residual-in_err-scan.result c.from_residual-in_err-scan.ensures.1 in rw (p.1, p.2) (told_row false c.args.volume.now _ c.in_ok-n.ensures _ c.in_err-scan.ensures)

@@ -1,20 +1,10 @@
-use mathlib.Core.Path.{subst}
-use mathlib.Core.Bool.{false}
-use Rattle.volume_contents.specs.declared.Why.TheVariants.{Contents}
-use Rattle.volume_read.specs.declared.Sought.TheVariants.{Refused}
-use Rattle.volume_read.specs.Reading.{spoilt, sound}
-use Rattle.volume_read.specs.inner.Scanning.{TableOf}
-use Rattle.volume_read.proofs.Told.{rows_few, rows_sound}
+use Rattle.std.proofs.lemmas.Result.{err_from_is_err_and}
+use Rattle.volume_read.specs.Reading.{sound}
+use Rattle.volume_read.proofs.Told.{told_spoilt}
 use Rattle.volume_read.proofs.problem.Goals as goal
 
--- src/lib.rt:83:27
-pub problem-requires : goal.problem-requires
-problem-requires c = (rows_few false c.args.volume.now c.contents-t.result c.contents-t.ensures _ c.in-Rows.is, rows_sound false c.args.volume.now c.contents-t.result c.contents-t.ensures _ c.in-Rows.is)
+pub returns-in_err-n : goal.returns-in_err-n
+returns-in_err-n c = let p = err_from_is_err_and c.from_residual.result c.from_residual.ensures.1 in rw (p.1, p.2) (told_spoilt c.args.volume.now c.args.number _ c.in_err-n.ensures)
 
--- src/lib.rt:71:1
-pub returns-in-Bad : goal.returns-in-Bad
-returns-in-Bad c = spoilt _ _ (subst (TableOf false c.args.volume.now) c.in-Bad.is c.contents-t.ensures) (λ i. record { sought = Refused (Contents c.in-Bad.w c.in-Bad.k); board = c.nothing-none.ensures i })
-
--- src/lib.rt:71:1
-pub returns-in-Rows : goal.returns-in-Rows
-returns-in-Rows c = sound _ (rows_sound false c.args.volume.now c.contents-t.result c.contents-t.ensures _ c.in-Rows.is) c.problem.ensures
+pub returns : goal.returns
+returns c = sound _ c.in_ok-n.ensures.1 c.problem.ensures

@@ -9,20 +9,15 @@ pub(super) fn read(line: &[u8], at: usize, room: &mut [u8; 16384]) -> usize
     ensures { result ≤ 16384 }
 {
     let field = fields::inner::text(line, at);
-    let mut n = 0;
-    while n < 16384 {
+    for (n, byte) in room.iter_mut().enumerate() {
         let high = digit(fields::inner::byte(field, 2 * n));
         let low = digit(fields::inner::byte(field, 2 * n + 1));
-        if high > 15 {
+        if high > 15 || low > 15 {
             return n;
         }
-        if low > 15 {
-            return n;
-        }
-        room[n] = (16 * high + low) as u8;
-        n += 1;
+        *byte = (16 * high + low) as u8;
     }
-    n
+    room.len()
 }
 
 // The first n bytes, which were read.
@@ -54,14 +49,12 @@ pub(super) fn put_front(slice: &[u8], n: usize, out: &mut [u8; 65536]) -> usize
 fn put(bytes: &[u8], out: &mut [u8; 65536]) -> usize
     ensures { Grows 0 result }
 {
-    if bytes.len() == 0 {
+    if bytes.is_empty() {
         return puts::inner::bytes(out, 0, b"-");
     }
     let mut len = 0;
-    let mut i = 0;
-    while i < bytes.len() {
-        len = put_byte(bytes[i], out, len);
-        i += 1;
+    for b in bytes {
+        len = put_byte(*b, out, len);
     }
     len
 }

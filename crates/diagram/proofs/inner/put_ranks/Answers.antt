@@ -1,33 +1,25 @@
 -- `diagram::inner::put_ranks` meets its contract.
-use mathlib.Core.Path.{refl}
-use Prim.Native.Nat.{◌-◌}
-use native.Mathlib.Omega.{arith}
-use borrow.Author.Rules.{rules}
+use Rattle.std.proofs.Common.{◌≡◌, ◌+◌, ◌-◌, arith}
 use Rattle.squares.specs.Members.{concat}
 use Rattle.output.proofs.Adding.{adds_nothing}
 use Rattle.diagram.specs.Diagrams.{rank_text}
 use Rattle.diagram.proofs.Drawn.{eight_next, eight_all, all_ranks_length, ranks_most}
 use Rattle.diagram.proofs.inner.put_ranks.Goals as goal
 
-pub loop-i-init : goal.loop-i-init
+pub loop-rank-init : goal.loop-rank-init
 unfolding concat
-loop-i-init c = (omega arith, adds_nothing c.args.out.now c.args.len, refl)
+loop-rank-init c = adds_nothing c.args.out.now c.args.len
 
 pub put_rank-at-requires : goal.put_rank-at-requires
-put_rank-at-requires c =
-    let l = c.loop-i in
-    omega (arith, ranks_most c.args.d l.i c.loop-i-test.true l.invariant.1)
+put_rank-at-requires c = (omega arith, omega (arith, ranks_most c.args.d (8 - c.loop-rank.rank) (omega arith) c.loop-rank.invariant))
 
-pub loop-i-preserved : goal.loop-i-preserved
-loop-i-preserved c =
-    let a = c.args in
-    let l = c.loop-i in
-    (omega arith, eight_next (λ j. rank_text a.d (7 - j)) l.i l.invariant.1 (omega (arith, all_ranks_length a.d)) c.loop-i-test.true c.put_rank-at.ensures, search rules)
-
-pub shape_of-out : goal.shape_of-out
-shape_of-out c = c.loop-i.invariant.2
+pub loop-rank-preserved : goal.loop-rank-preserved
+loop-rank-preserved c =
+    let d = c.args.d in
+    let l = c.loop-rank in
+    let next : 8 - (l.rank - 1) ≡ 8 - l.rank + 1 = omega arith in
+    let this : 7 - (8 - l.rank) ≡ l.rank - 1 = omega arith in
+    rw next (eight_next (λ j. rank_text d (7 - j)) (8 - l.rank) l.invariant (omega (arith, all_ranks_length d)) (omega arith) (rw this c.put_rank-at.ensures))
 
 pub returns : goal.returns
-returns c =
-    let a = c.args in
-    eight_all (λ j. rank_text a.d (7 - j)) c.loop-i.i c.loop-i.invariant.1 (omega arith)
+returns c = eight_all (λ j. rank_text c.args.d (7 - j)) (8 - c.loop-rank.rank) c.loop-rank.invariant (omega arith)

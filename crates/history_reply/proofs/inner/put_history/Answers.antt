@@ -10,7 +10,7 @@ pub returns-in-Past : goal.returns-in-Past
 returns-in-Past c = let a = c.args in let p = past_depth _ _ _ _ c.requires c.in-Past.is in past_shown a.b a.out.now _ _ c.put_text-n.ensures.0 c.put_text-n.ensures.1 a.depth _ _ _ _ c.in-Past.is p.0 p.1 c.put_plies.ensures
 
 pub returns-in-NoPast : goal.returns-in-NoPast
-returns-in-NoPast c = let a = c.args in none_shown a.b a.out.now _ _ c.put_text-n-in-NoPast.ensures.0 c.put_text-n-in-NoPast.ensures.1 a.depth _ _ _ c.in-NoPast.is (used_adds _ _ _ _ _ c.put_bytes.ensures _ c.used.ensures)
+returns-in-NoPast c = let a = c.args in none_shown a.b a.out.now _ _ c.put_text-n-in-NoPast.ensures.0 c.put_text-n-in-NoPast.ensures.1 a.depth _ _ _ c.in-NoPast.is (used_adds _ _ _ _ _ c.put_bytes.ensures _ c.unwrap_or.ensures)
 
 pub returns-in-Refused : goal.returns-in-Refused
 returns-in-Refused c = let a = c.args in refused_shown a.b a.depth _ _ a.out.now _ _ _ c.in-Refused.is c.number.ensures c.put_number.ensures

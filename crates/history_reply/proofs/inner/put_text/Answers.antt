@@ -9,7 +9,7 @@ use borrow.Author.Rules.{rules}
 use Rattle.history_reply.proofs.inner.put_text.Goals as goal
 
 pub returns-in-Count : goal.returns-in-Count
-returns-in-Count c = let a = c.args in text_shown a.b a.out.now _ _ _ _ (search rules) (tells_count c.print-p.ensures _ (ap copied_says c.in-Count.is)) (used_adds _ _ _ _ _ c.put_bytes.ensures _ c.used.ensures)
+returns-in-Count c = let a = c.args in text_shown a.b a.out.now _ _ _ _ (search rules) (tells_count c.print-p.ensures _ (ap copied_says c.in-Count.is)) (used_adds _ _ _ _ _ c.put_bytes.ensures _ c.unwrap_or.ensures)
 
 pub returns-in-Room : goal.returns-in-Room
 returns-in-Room c = let a = c.args in absurd (never_room a.b a.out.now _ _ (search rules) (tells_room c.print-p.ensures _ (ap copied_says c.in-Room.is)))

@@ -4,4 +4,4 @@ use Rattle.puts.proofs.Grown.{grown}
 use Rattle.puts.proofs.inner.number.Goals as goal
 
 pub returns : goal.returns
-returns c = grown _ _ _ _ _ c.put_decimal.ensures.puts _ c.used.ensures (search rules)
+returns c = grown _ _ _ _ _ c.put_decimal.ensures.puts _ c.unwrap_or.ensures (search rules)

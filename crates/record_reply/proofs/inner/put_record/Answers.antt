@@ -9,7 +9,7 @@ pub returns-in-Count : goal.returns-in-Count
 returns-in-Count c =
     let a = c.args in
     record_shown a.b a.half a.full (omega arith) (omega arith) a.out.now _ (search rules) _ c.write-w.ensures _ c.in-Count.is _ _
-    (used_adds _ _ _ _ _ c.put_bytes.ensures _ c.used.ensures)
+    (used_adds _ _ _ _ _ c.put_bytes.ensures _ c.unwrap_or.ensures)
 
 pub returns-in-Room : goal.returns-in-Room
 returns-in-Room c =

@@ -22,7 +22,7 @@ slice_bounds-put_bytes-end-2 c =
 pub returns : goal.returns
 returns c =
     record_shown c.args.p c.args.half c.args.full c.args.line.now _ _ _ _ _ _ _ _ _ _ _ _ (search rules) c.ranges.half.fits c.ranges.full.fits
-    (adds_as _ _ _ _ _ _ (used_adds _ _ _ _ _ c.put_bytes.ensures _ c.used-fields.ensures)
+    (adds_as _ _ _ _ _ _ (used_adds _ _ _ _ _ c.put_bytes.ensures _ c.unwrap_or-fields.ensures)
     (c.line_of-four.ensures.0.text ∙ ap printed (c.with_state.ensures ∙ ap (with_state c.args.p) c.passed_state-passed.ensures)))
-    (used_adds _ _ _ _ _ c.put_bytes-2.ensures _ c.used-first.ensures) c.put_decimal.ensures c.used-second.ensures
-    (used_adds _ _ _ _ _ c.put_bytes-3.ensures _ c.used-third.ensures) c.put_decimal-2.ensures c.used.ensures
+    (used_adds _ _ _ _ _ c.put_bytes-2.ensures _ c.unwrap_or-first.ensures) c.put_decimal.ensures c.unwrap_or-second.ensures
+    (used_adds _ _ _ _ _ c.put_bytes-3.ensures _ c.unwrap_or-third.ensures) c.put_decimal-2.ensures c.unwrap_or.ensures

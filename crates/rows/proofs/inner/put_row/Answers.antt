@@ -4,4 +4,4 @@ use Rattle.output.proofs.Adding.{adds_as}
 use Rattle.rows.proofs.inner.put_row.Goals as goal
 
 pub returns : goal.returns
-returns c = adds_as _ _ _ _ _ _ (used_adds _ _ _ _ _ c.put_bytes.ensures _ c.used.ensures) c.row-bytes.ensures
+returns c = adds_as _ _ _ _ _ _ (used_adds _ _ _ _ _ c.put_bytes.ensures _ c.unwrap_or.ensures) c.row-bytes.ensures

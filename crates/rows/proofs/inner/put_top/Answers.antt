@@ -8,4 +8,4 @@ pub put_squares-end-requires : goal.put_squares-end-requires
 put_squares-end-requires c = squares_room _ _ _ _ (search rules) c.ranges.a.fits c.ranges.b.fits c.put_head-head.ensures.0 c.put_head-head.ensures.1
 
 pub returns : goal.returns
-returns c = top_shown _ _ _ _ (search rules) c.ranges.a.fits c.ranges.b.fits c.put_head-head.ensures.0 c.put_head-head.ensures.1 _ _ _ _ _ c.put_squares-end.ensures (used_adds _ _ _ _ _ c.put_bytes.ensures _ c.used.ensures)
+returns c = top_shown _ _ _ _ (search rules) c.ranges.a.fits c.ranges.b.fits c.put_head-head.ensures.0 c.put_head-head.ensures.1 _ _ _ _ _ c.put_squares-end.ensures (used_adds _ _ _ _ _ c.put_bytes.ensures _ c.unwrap_or.ensures)

@@ -6,4 +6,4 @@ use borrow.Author.Rules.{rules}
 use Rattle.solution_reply.proofs.inner.put_numbered.Goals as goal
 
 pub returns : goal.returns
-returns c = numbered_shown c.args.word.now c.args.out.now _ _ _ _ _ _ _ _ c.requires (search rules) (omega arith) (used_adds _ _ _ _ _ c.put_bytes.ensures _ c.used-a.ensures) c.put_decimal.ensures c.used-d.ensures (used_adds _ _ _ _ _ c.put_bytes-2.ensures _ c.used.ensures)
+returns c = numbered_shown c.args.word.now c.args.out.now _ _ _ _ _ _ _ _ c.requires (search rules) (omega arith) (used_adds _ _ _ _ _ c.put_bytes.ensures _ c.unwrap_or-a.ensures) c.put_decimal.ensures c.unwrap_or-d.ensures (used_adds _ _ _ _ _ c.put_bytes-2.ensures _ c.unwrap_or.ensures)

@@ -9,7 +9,7 @@ use borrow.Author.Rules.{rules}
 use Rattle.solution_reply.proofs.inner.put_verdict.Goals as goal
 
 pub returns-in-Complete : goal.returns-in-Complete
-returns-in-Complete c = verdict_shown c.in-Complete.is (shown c.args.out.now _ _ _ (used_adds _ _ _ _ _ c.put_bytes.ensures _ c.used.ensures) (let l : length c.args.out.now ≡ 196608 = search rules in omega arith))
+returns-in-Complete c = verdict_shown c.in-Complete.is (shown c.args.out.now _ _ _ (used_adds _ _ _ _ _ c.put_bytes.ensures _ c.unwrap_or.ensures) (let l : length c.args.out.now ≡ 196608 = search rules in omega arith))
 
 pub returns-in-Wrong : goal.returns-in-Wrong
 returns-in-Wrong c = verdict_shown c.in-Wrong.is c.put_numbered.ensures

@@ -3,7 +3,7 @@ use Rattle.std.proofs.Common.{◌≤◌, ◌-◌}
 use Rattle.volume.proofs.make.survey.Given as goal
 
 abbrev pub invariant-loop-at : goal.invariant-loop-at
-invariant-loop-at g l = (l.at ≤ l.size) × (l.count ≤ l.at)
+invariant-loop-at g l = (l.at ≤ l.f.size) × (l.count ≤ l.at)
 
 abbrev pub decreases-loop-at : goal.decreases-loop-at
-decreases-loop-at g l = l.size - l.at
+decreases-loop-at g l = l.f.size - l.at

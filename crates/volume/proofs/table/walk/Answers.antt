@@ -3,5 +3,5 @@ use Rattle.std.proofs.Common.{arith}
 use Rattle.volume.proofs.Rising.{walked_rising}
 use Rattle.volume.proofs.table.walk.Goals as goal
 
-pub find-found-requires : goal.find-found-requires
-find-found-requires c = (omega arith, omega arith, walked_rising _ _ _ _ _ _ _ _ c.walk-w.ensures c.in-Sound.is)
+pub find-requires : goal.find-requires
+find-requires c = (omega arith, omega arith, walked_rising _ _ _ _ _ _ _ _ c.in-Ok.ensures)

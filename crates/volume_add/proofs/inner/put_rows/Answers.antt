@@ -12,26 +12,15 @@ use Rattle.volume_make.proofs.Rows.{rows_none, rows_more, rows_done}
 use Rattle.volume_add.specs.inner.Longer.{carried}
 use Rattle.volume_add.proofs.inner.put_rows.Goals as goal
 
--- src/inner.rt:50:5
 pub loop-i-init : goal.loop-i-init
-loop-i-init c = (omega arith, rows_none (carried c.args.v.now c.args.n) 6 8 c.args.out.now (omega arith))
+loop-i-init c = rows_none (carried c.args.v.now c.args.n) 6 8 c.args.out.now (omega arith)
 
--- src/inner.rt:53:9
-pub put-requires : goal.put-requires
-put-requires c = let z : length c.loop-i.out ≡ length c.args.out.now = filled_length c.loop-i.invariant.1.filled in (omega (arith, c.row_of.ensures.1), omega (arith, c.row_of.ensures.1))
-
--- src/inner.rt:50:5
 pub loop-i-preserved : goal.loop-i-preserved
 loop-i-preserved c =
     let place : ℕ = 14 + 8 * c.args.n + 34 * c.loop-i.i in
     let h = subst (λ (x : Edition). Holds c.row_of.result (row_of c.entry-row.result.number x place)) c.edition_of-edition.ensures c.row_of.ensures.0 in
     let k = subst (λ (r : Entry). Holds c.row_of.result (row_of r.number (edition_of r.edition) place)) c.entry-row.ensures.0 h in
-    (omega arith, rows_more (carried c.args.v.now c.args.n) 6 8 _ c.loop-i.i c.row_of.result (λ j. refl) c.loop-i.invariant.1 (omega arith) k refl c.put.ensures)
+    rows_more (carried c.args.v.now c.args.n) 6 8 _ c.loop-i.i c.row_of.result (λ j. refl) c.loop-i.invariant (omega arith) k refl c.put.ensures
 
--- src/inner.rt:45:1
-pub shape_of-out : goal.shape_of-out
-shape_of-out c = filled_length c.loop-i.invariant.1.filled
-
--- src/inner.rt:45:1
 pub returns : goal.returns
-returns c = rows_done (carried c.args.v.now c.args.n) 6 8 c.args.n c.loop-i.i (λ j. refl) (omega arith) c.loop-i.invariant.1
+returns c = rows_done (carried c.args.v.now c.args.n) 6 8 c.args.n c.loop-i.i (λ j. refl) (omega arith) c.loop-i.invariant

@@ -3,17 +3,14 @@ use Rattle.squares.specs.Tests.{◌and◌}
 use Rattle.volume_add.specs.Adding.{number_tested}
 use Rattle.volume_add.proofs.inner.test_number.Goals as goal
 
--- src/inner.rt:37:13
 pub returns-then-last-k : goal.returns-then-last-k
 unfolding number_tested ◌and◌
 returns-then-last-k c = rw (c.if-k.true, lt-ltb _ _ c.if-last-k.true)
 
--- src/inner.rt:39:9
 pub returns-then-k : goal.returns-then-k
 unfolding number_tested ◌and◌
 returns-then-k c = rw (c.if-k.true, le-ltb _ _ c.if-last-k.false)
 
--- src/inner.rt:32:1
 pub returns : goal.returns
 unfolding number_tested ◌and◌
 returns c = rw c.if-k.false

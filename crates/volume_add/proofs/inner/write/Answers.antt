@@ -5,10 +5,5 @@ use Rattle.volume_add.proofs.Lengthening.{longer_in}
 use borrow.Author.Rules.{rules}
 use Rattle.volume_add.proofs.inner.write.Goals as goal
 
--- src/inner.rt:69:5
-pub put-requires-3 : goal.put-requires-3
-put-requires-3 c = let e : length c.copy.new.out ≡ length c.args.out.now = search rules in (omega (arith, c.body_of.ensures.1), omega (arith, c.body_of.ensures.1, c.requires.2))
-
--- src/inner.rt:59:1
 pub returns : goal.returns
 returns c = longer_in c.args.v.now c.args.out.now _ _ _ _ _ c.args.n c.args.number c.args.board c.head_of.result c.row_of.result c.body_of.result c.requires.1 c.requires.2 c.head_of.ensures.0 c.put.ensures c.put_rows.ensures c.row_of.ensures.0 c.put-2.ensures c.copy.ensures c.body_of.ensures.0 c.put-3.ensures

@@ -1,19 +1,14 @@
--- `volume_body::inner::put_pairs` meets its contract.
 use mathlib.Core.Path.{refl}
-use Prim.Native.Nat.{◌-◌}
 use native.Mathlib.Omega.{arith}
 use Rattle.laws.specs.Boards.{men_in}
-use Rattle.volume_body.proofs.Writing.{pairs_none, pairs_more, pairs_done, pairs_len}
+use Rattle.volume_body.proofs.Writing.{pairs_none, pairs_more, pairs_len}
 use Rattle.volume_body.proofs.inner.put_pairs.Goals as goal
 
 pub loop-j-init : goal.loop-j-init
-loop-j-init c = (omega arith, pairs_none (men_in c.args.p) _ refl)
+loop-j-init c = pairs_none (men_in c.args.p) _ refl
 
 pub push-line-requires : goal.push-line-requires
-push-line-requires c = omega (arith, pairs_len _ _ c.loop-j.invariant.1)
+push-line-requires c = omega (arith, pairs_len _ _ c.loop-j.invariant)
 
 pub loop-j-preserved : goal.loop-j-preserved
-loop-j-preserved c = (omega arith, pairs_more _ _ _ c.loop-j.invariant.1 c.pair.ensures c.push-line.ensures)
-
-pub returns : goal.returns
-returns c = pairs_done _ c.loop-j.j (omega arith) c.loop-j.invariant.1
+loop-j-preserved c = pairs_more _ _ _ c.loop-j.invariant c.pair.ensures c.push-line.ensures

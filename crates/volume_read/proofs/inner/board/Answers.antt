@@ -1,17 +1,10 @@
-use mathlib.Core.Path.{refl, sym, ◌∙◌, subst}
-use Rattle.volume_read.specs.declared.Read.{Read}
-use Rattle.volume_read.specs.Reading.{Reads, bodiless, unjudged}
+use mathlib.Core.Path.{sym, ◌∙◌}
+use Rattle.volume_read.specs.Reading.{bodiless, unjudged}
 use Rattle.volume_read.proofs.Boards.{has_board, has_none}
 use Rattle.volume_read.proofs.inner.board.Goals as goal
 
--- src/inner.rt:66:1
 pub returns-in-OutOfForm : goal.returns-in-OutOfForm
-returns-in-OutOfForm c = subst (λ (r : Read). Reads c.args.v.now c.args.n c.args.i r) (sym c.refused.ensures) (bodiless (has_none c.args.v.now c.args.n c.args.i c.requires.0 c.requires.1 c.board_at-raw.result c.board_at-raw.ensures c.in-OutOfForm.is), refl)
+returns-in-OutOfForm c = bodiless (has_none c.args.v.now c.args.n c.args.i c.requires.0 c.requires.1 c.board_at-raw.result c.board_at-raw.ensures c.in-OutOfForm.is)
 
--- src/inner.rt:66:1
 pub returns-in-Err : goal.returns-in-Err
-returns-in-Err c = subst (λ (r : Read). Reads c.args.v.now c.args.n c.args.i r) (sym c.refused-in-Err.ensures) (unjudged c.board_at-raw.result.position _ (has_board c.args.v.now c.args.n c.args.i c.requires.0 c.requires.1 c.board_at-raw.result c.board_at-raw.ensures c.in-InForm.is) (sym c.judge-verdict.ensures ∙ c.in-Err.is), refl)
-
--- src/inner.rt:66:1
-pub returns-in-Ok : goal.returns-in-Ok
-returns-in-Ok c = (has_board c.args.v.now c.args.n c.args.i c.requires.0 c.requires.1 c.board_at-raw.result c.board_at-raw.ensures c.in-InForm.is, sym c.judge-verdict.ensures ∙ c.in-Ok.is)
+returns-in-Err c = unjudged c.board_at-raw.result.position _ (has_board c.args.v.now c.args.n c.args.i c.requires.0 c.requires.1 c.board_at-raw.result c.board_at-raw.ensures c.in-InForm.is) (sym c.judge-verdict.ensures ∙ c.in-Err.is)

@@ -9,7 +9,6 @@ use Rattle.volume_contents.specs.inner.Walks.{edition_of}
 use Rattle.volume_read.specs.Reading.{body_at}
 use Rattle.volume_read.proofs.inner.board_at.Goals as goal
 
--- src/inner.rt:43:1
 pub returns : goal.returns
 returns c =
     let at : ℕ = 6 + 8 * c.args.n + 34 * c.args.i in
