@@ -16,7 +16,7 @@ use refusal::Refusal;
 pub fn small(depth: u16) -> u8
     ensures { result ≡ min depth 255 }
 {
-    if depth < 255 { depth as u8 } else { 255 }
+    depth.min(255) as u8
 }
 
 // A ply, to a line.
@@ -55,15 +55,19 @@ fn put_plies(out: &mut [u8], len: usize, h: History, depth: u8) -> usize
 fn put_text(b: RetractableBoard, out: &mut [u8; 196608]) -> usize
     ensures { Shows (text_on b ++ newline) result out.old out.new × (result + 36 ≤ length out.old) }
 {
-    let p = text::inner::print(b, out);
-    match p {
+    match text::inner::print(b, out) {
         Ok(n) => output::put_bytes(out, n, b"\n").unwrap_or(n),
         Err(_) => 0,
     }
 }
 
 // What is told of an accepted board, under its text.
-fn put_history(b: RetractableBoard, depth: u8, told: Result<Option<History>, Why>, out: &mut [u8; 196608]) -> usize
+fn put_history(
+    b: RetractableBoard,
+    depth: u8,
+    told: Result<Option<History>, Why>,
+    out: &mut [u8; 196608],
+) -> usize
     requires { Answers b depth told }
     ensures { Shows (history_text b depth told) result out.old out.new }
 {
@@ -94,8 +98,7 @@ pub fn answer_with(t: &[u64; 4096], text: &[u8], depth: u8, out: &mut [u8; 19660
     ensures { AnswersText text.now depth result out.old out.new }
 {
     let r = text::inner::read(t, text, Edition::A);
-    let v = r.verdict;
-    match v {
+    match r.verdict {
         Err(why) => reply::put_refused(why, out),
         Ok(()) => {
             let b = r.board;
@@ -117,6 +120,5 @@ pub fn reply(t: &[u64; 4096], line: &[u8], out: &mut [u8; 196608]) -> usize
     if 10000 < depth {
         return reply::put_refused(Refusal::Text, out);
     }
-    let k = j - 1;
-    answer_with(t, &line[..k], small(depth), out)
+    answer_with(t, &line[..j - 1], small(depth), out)
 }
