@@ -93,7 +93,7 @@ module _ (b : RetractableBoard) (shape : Shaped (to_laws b)) (accepted : first_f
     pub limits : men b b.turn ≤ limit → (r : Result Bool Refusal) → limited_says r ≡ limited_of b → number_said (limited_says r) ≡ 0
     unfolding limited_from sides_of
     limits fewer r k =
-        ap number_said (k ∙ sym (behind_by nothing_refused (board_tests b) _ (sym nothing_refused)))
+        ap number_said (k ∙ sym (behind_by nothing_refused (board_tests b) _ (sym accepted)))
         ∙ ap (λ (x : Said). number_said (cond (not (eqb b.checkers 0) or names_square b.passant) (told (1 ∷ [])) x))
         (sym (side_is b sound few _)
         ∙ ap (λ (x : Said). cond (nothing_on b) (told (1 ∷ [])) x) (sym (side_is (flipped b) sound_flipped (back fewer) _)))

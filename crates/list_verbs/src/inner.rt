@@ -14,7 +14,6 @@ enum Question {
     Count,
     Strict,
     LastMove,
-    Nothing,
 }
 
 // The answer to a line of one of these verbs, 0 bytes to any other.
@@ -39,27 +38,26 @@ pub fn answer_with(t: &[u64; 4096], line: &[u8], out: &mut [u8; 65536]) -> usize
     if fields::inner::starts(line, b"strictinto\t") {
         return slices::list(t, true, line, out);
     }
-    let what = asked(line);
-    match what {
-        Question::Nothing => 0,
-        known => of_text(t, known, line, out),
-    }
+    let Some(what) = asked(line) else {
+        return 0;
+    };
+    of_text(t, what, line, out)
 }
 
-fn asked(line: &[u8]) -> Question {
+fn asked(line: &[u8]) -> Option<Question> {
     if fields::inner::starts(line, b"limited\t") {
-        return Question::Limited;
+        return Some(Question::Limited);
     }
     if fields::inner::starts(line, b"count\t") {
-        return Question::Count;
+        return Some(Question::Count);
     }
     if fields::inner::starts(line, b"strict\t") {
-        return Question::Strict;
+        return Some(Question::Strict);
     }
     if fields::inner::starts(line, b"lastmove\t") {
-        return Question::LastMove;
+        return Some(Question::LastMove);
     }
-    Question::Nothing
+    None
 }
 
 fn of_text(t: &[u64; 4096], what: Question, line: &[u8], out: &mut [u8; 65536]) -> usize
@@ -89,6 +87,5 @@ fn of_board(t: &[u64; 4096], what: Question, b: RetractableBoard, out: &mut [u8;
         }
         Question::Strict => counts::put_strict(strict::inner::strict_count(t, b), out),
         Question::LastMove => counts::put_last_move(strict::inner::last_move(t, b), out),
-        Question::Nothing => 0,
     }
 }

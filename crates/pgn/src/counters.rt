@@ -7,10 +7,8 @@ pub(super) fn at(line: &[u8], from: usize) -> u32
 {
     let end = fields::inner::stop(line, from, b' ');
     let mut x = 65536u32;
-    let mut i = from;
-    while i < end {
+    for i in from..end {
         x = with_byte(x, i == from, fields::inner::byte(line, i));
-        i += 1;
     }
     x
 }
@@ -33,6 +31,5 @@ fn with_byte(x: u32, first: bool, b: u8) -> u32
     if x == 0 {
         return 65536;
     }
-    let y = x * 10 + d;
-    if y > 65535 { 65536 } else { y }
+    (x * 10 + d).min(65536)
 }

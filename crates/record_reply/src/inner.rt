@@ -12,7 +12,9 @@ pub fn put_record(b: RetractableBoard, half: u16, full: u16, out: &mut [u8; 1966
     let w = records::inner::write(b, half, full, out);
     match w {
         Ok(n) => output::put_bytes(out, n, b"\n").unwrap_or(n),
-        Err(Unwritten::Room(_)) => 0,
-        Err(Unwritten::Refused(why)) => reply::inner::put_number(records::number(why), out),
+        Err(unwritten) => match unwritten {
+            Unwritten::Room(_) => 0,
+            Unwritten::Refused(why) => reply::inner::put_number(records::number(why), out),
+        },
     }
 }

@@ -7,7 +7,7 @@ ghost use Rattle.records.specs.Form.{record_of};
 ghost use Rattle.records.specs.Entries.{Reads, record_on, written_says, WritesRecord};
 ghost use Rattle.records.specs.inner.Answering.{with_state, no_record, recorded_by, record_said, known_said, answer_of};
 
-use super::{Outcome, Recorded, Why, Unwritten};
+use super::{Outcome, Recorded, Unwritten, Why};
 use board::{Boarded, RetractableBoard};
 use laws::{Edition, EnPassantFlag, Position};
 use position_text::{Form, Raw};

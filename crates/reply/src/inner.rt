@@ -51,8 +51,10 @@ fn put_strict(
     let s = strict::inner::list(t, b, strict);
     match s {
         Ok(n) => put_lists(b, listed, &strict[..n], out),
-        Err(Unlisted::Room(_)) => super::put_refused(Refusal::Room, out),
-        Err(Unlisted::Refused(why)) => super::put_refused(why, out),
+        Err(why) => match why {
+            Unlisted::Room(_) => super::put_refused(Refusal::Room, out),
+            Unlisted::Refused(r) => super::put_refused(r, out),
+        },
     }
 }
 
@@ -69,8 +71,10 @@ pub fn put_board(
     let l = listing::inner::list(t, b, listed);
     match l {
         Ok(n) => put_strict(t, b, &listed[..n], strict, out),
-        Err(Unlisted::Room(_)) => super::put_refused(Refusal::Room, out),
-        Err(Unlisted::Refused(why)) => super::put_refused(why, out),
+        Err(why) => match why {
+            Unlisted::Room(_) => super::put_refused(Refusal::Room, out),
+            Unlisted::Refused(r) => super::put_refused(r, out),
+        },
     }
 }
 

@@ -41,8 +41,10 @@ pub fn opening(b: RetractableBoard, out: &mut [u8; 196608]) -> usize
             let side = words::inner::put_side(out, d, turn);
             words::inner::put(out, side, b" to move. A key shows a last move, q leaves.\n")
         }
-        Err(Unprinted::Room(_)) => 0,
-        Err(Unprinted::Refused(why)) => reply::put_refused(why, out),
+        Err(unprinted) => match unprinted {
+            Unprinted::Room(_) => 0,
+            Unprinted::Refused(why) => reply::put_refused(why, out),
+        },
     }
 }
 

@@ -34,6 +34,7 @@ fn missing(t: &[u64; 4096], p: Position, seen: &[u64; 768]) -> Checked
     ensures { Lacks (test_of (pos_at p)) (marked seen.now) result }
 {
     let mut i: usize = 0;
+    // No `for`: the turns go from one strict place to the next, past all places between.
     while i < strict_search::inner::PLACES {
         let j = strict_search::inner::next_from(t, p, i);
         if j == strict_search::inner::PLACES {
@@ -55,6 +56,7 @@ fn verdict(t: &[u64; 4096], p: Position, lines: &[u8]) -> Checked
     let mut seen = [0u64; 768];
     let mut at = 0;
     let mut n = 0;
+    // No `for`: `at` goes from line to line as in `form_of`, and the lemmas of solution_lines/proofs/Walking.antt serve both.
     while at < lines.len() {
         let stop = chunks::inner::find(lines, at, lines.len());
         let r = solution_lines::inner::read_line(&lines[at..stop]);

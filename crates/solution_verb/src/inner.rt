@@ -23,12 +23,9 @@ pub fn answer(line: &[u8], out: &mut [u8; 65536]) -> usize
 fn take_lines(line: &[u8], tab: usize, room: &mut [u8; 65536]) -> usize
     ensures { result ≤ 65536 }
 {
-    let mut i = tab;
-    let mut n = 0;
-    while i < line.len() && n < 65536 {
-        i += 1;
-        room[n] = ended(fields::inner::byte(line, i));
-        n += 1;
+    let n = line.len().saturating_sub(tab).min(65536);
+    for i in 0..n {
+        room[i] = ended(fields::inner::byte(line, tab + 1 + i));
     }
     n
 }

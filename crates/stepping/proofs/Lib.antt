@@ -1,4 +1,3 @@
-pub mod Valued
 pub mod Resting
 pub mod Ranged
 pub mod Pressing

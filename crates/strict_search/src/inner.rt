@@ -42,6 +42,7 @@ pub fn next_from(t: &[u64; 4096], p: Position, start: usize) -> usize
     ensures { Next (test_of (pos_at p)) start result }
 {
     let mut i = start;
+    // No `for`: a source without a strict place is passed over whole.
     while i < PLACES {
         let w = strict_sets::inner::targets_of(t, p, (i / OF_A_SOURCE) as u8);
         let j = places::first_in(w, i);
@@ -58,13 +59,11 @@ fn gather(t: &[u64; 4096], p: Position, kept: &mut [u64; 320]) -> usize
     requires { (IsBetween t.now × Today p) × (length kept.old ≡ 320) }
     ensures { Gathers (pos_at p) kept.new result }
 {
-    let mut n: usize = 0;
-    let mut s: usize = 0;
-    while s < 64 {
+    let mut n = 0;
+    for s in 0..64usize {
         let w = strict_sets::inner::targets_of(t, p, s as u8);
         kept::keep(kept, s, w);
         n += places::size_of(w);
-        s += 1;
     }
     n
 }
@@ -84,6 +83,7 @@ fn fill(kept: &[u64; 320], slots: &mut [u16])
 {
     let mut n: usize = 0;
     let mut i: usize = 0;
+    // No `for`: the next strict place comes next, or the next source.
     while i < PLACES {
         let w = kept::kept_at(kept, i / OF_A_SOURCE);
         let j = places::first_in(w, i);

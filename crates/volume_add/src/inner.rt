@@ -83,16 +83,13 @@ pub fn add_to(
     if let Err(flaw) = test_number(last(v, n), number) {
         return Err(Why::Contents(flaw, n + 1));
     }
-    let j = accept::inner::judge(board);
-    match j {
-        Err(w) => Err(Why::Board(w, n + 1)),
-        Ok(()) => {
-            let need = 48 + 42 * n;
-            if out.len() < need {
-                return Err(Why::Room(need));
-            }
-            write(v, n, number, board, out);
-            Ok(need)
-        }
+    if let Err(w) = accept::inner::judge(board) {
+        return Err(Why::Board(w, n + 1));
     }
+    let need = 48 + 42 * n;
+    if out.len() < need {
+        return Err(Why::Room(need));
+    }
+    write(v, n, number, board, out);
+    Ok(need)
 }

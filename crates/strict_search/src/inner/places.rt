@@ -73,6 +73,7 @@ pub(super) fn first_in(w: Targets, i: usize) -> usize
         return end;
     }
     let mut j = i;
+    // No `for`: the targets without a strict place are passed over.
     while j < end {
         let left = twelve(w, (j / OF_A_PAIR % 64) as u8) >> (j % OF_A_PAIR);
         if left != 0 {

@@ -1,8 +1,8 @@
 -- `text::told` meets its contract.
 use Rattle.text.proofs.told.Goals as goal
 
-pub returns-in-Count : goal.returns-in-Count
-returns-in-Count c = rw c.in-Count.is
+pub returns-in-Ok : goal.returns-in-Ok
+returns-in-Ok c = rw c.in-Ok.is
 
-pub returns-in-Room : goal.returns-in-Room
-returns-in-Room c = rw c.in-Room.is
+pub returns-in-Err : goal.returns-in-Err
+returns-in-Err c = rw c.in-Err.is

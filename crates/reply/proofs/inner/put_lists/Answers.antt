@@ -7,8 +7,8 @@ use Rattle.reply.proofs.Shown.{lists_shown, never_room}
 use borrow.Author.Rules.{rules}
 use Rattle.reply.proofs.inner.put_lists.Goals as goal
 
-pub returns-in-Count : goal.returns-in-Count
-returns-in-Count c = lists_shown c.args.b c.args.out.now _ _ (search rules) c.requires.0 _ _ c.requires.1 c.requires.2 _ _ _ _ (tells_count c.print-p.ensures _ (ap copied_says c.in-Count.is)) (used_adds _ _ _ _ _ c.put_bytes.ensures _ c.unwrap_or-end.ensures) (used_adds _ _ _ _ _ c.report.ensures _ c.unwrap_or.ensures)
+pub returns-in-Ok : goal.returns-in-Ok
+returns-in-Ok c = lists_shown c.args.b c.args.out.now _ _ (search rules) c.requires.0 _ _ c.requires.1 c.requires.2 _ _ _ _ (tells_count c.print-p.ensures _ (ap copied_says c.in-Ok.is)) (used_adds _ _ _ _ _ c.put_bytes.ensures _ c.unwrap_or-end.ensures) (used_adds _ _ _ _ _ c.report.ensures _ c.unwrap_or.ensures)
 
-pub returns-in-Room : goal.returns-in-Room
-returns-in-Room c = absurd (never_room c.args.b c.args.out.now _ _ (search rules) (tells_room c.print-p.ensures _ (ap copied_says c.in-Room.is)))
+pub returns-in-Err : goal.returns-in-Err
+returns-in-Err c = absurd (never_room c.args.b c.args.out.now _ _ (search rules) (tells_room c.print-p.ensures _ (ap copied_says c.in-Err.is)))

@@ -1,5 +1,6 @@
 -- `reply::inner::put_strict` meets its contract.
-use mathlib.Core.Path.{sym, ap}
+use mathlib.Core.Path.{sym, ap, ◌∙◌}
+use Rattle.std.specs.Prelude.{Err}
 use native.Mathlib.Omega.{arith}
 use lib.ListN.{length}
 use lib.Seq.{length-take-le}
@@ -13,19 +14,19 @@ pub list-s-requires : goal.list-s-requires
 list-s-requires c = (c.requires.0, passed_board c.args.b c.requires.1)
 
 pub slice_bounds-put_lists-end : goal.slice_bounds-put_lists-end
-slice_bounds-put_lists-end c = let x = c.list-s.ensures in written_within (listing_tells x.moves _ x.into _ c.in-Count.is)
+slice_bounds-put_lists-end c = let x = c.list-s.ensures in written_within (listing_tells x.moves _ x.into _ c.in-Ok.is)
 
-pub slice_bounds-put_lists-end-in-Count : goal.slice_bounds-put_lists-end-in-Count
-slice_bounds-put_lists-end-in-Count c = let x = c.list-s.ensures in sym (length-take-le _ _ (written_within (listing_tells x.moves _ x.into _ c.in-Count.is)))
+pub slice_bounds-put_lists-end-in-Ok : goal.slice_bounds-put_lists-end-in-Ok
+slice_bounds-put_lists-end-in-Ok c = let x = c.list-s.ensures in sym (length-take-le _ _ (written_within (listing_tells x.moves _ x.into _ c.in-Ok.is)))
 
 pub put_lists-requires : goal.put_lists-requires
-put_lists-requires c = let x = c.list-s.ensures in let w = listing_tells x.moves _ x.into _ c.in-Count.is in (passed_board c.args.b c.requires.1, (let k = passed_room c.args.b c.requires.1 in omega (arith, ap length c.requires.2)), omega (arith, ap length (written_is w), w.fits, c.requires.3))
+put_lists-requires c = let x = c.list-s.ensures in let w = listing_tells x.moves _ x.into _ c.in-Ok.is in (passed_board c.args.b c.requires.1, (let k = passed_room c.args.b c.requires.1 in omega (arith, ap length c.requires.2)), omega (arith, ap length (written_is w), w.fits, c.requires.3))
 
-pub returns-in-Count : goal.returns-in-Count
-returns-in-Count c = strict_shown c.args.b c.requires.1 c.requires.3 _ c.list-s.ensures _ c.in-Count.is _ c.requires.2 c.put_lists.ensures
+pub returns-in-Ok : goal.returns-in-Ok
+returns-in-Ok c = strict_shown c.args.b c.requires.1 c.requires.3 _ c.list-s.ensures _ c.in-Ok.is _ c.requires.2 c.put_lists.ensures
 
 pub returns-in-Room : goal.returns-in-Room
-returns-in-Room c = strict_roomless c.args.b c.requires.1 c.requires.3 _ c.list-s.ensures _ c.in-Room.is c.put_refused.ensures
+returns-in-Room c = strict_roomless c.args.b c.requires.1 c.requires.3 _ c.list-s.ensures _ (c.in-Err.is ∙ ap Err c.in-Room.is) c.put_refused.ensures
 
 pub returns-in-Refused : goal.returns-in-Refused
-returns-in-Refused c = let x = c.list-s.ensures in absurd (never_failed c.args.b (passed_board c.args.b c.requires.1) (listing_tells x.moves _ x.into _ c.in-Refused.is))
+returns-in-Refused c = let x = c.list-s.ensures in absurd (never_failed c.args.b (passed_board c.args.b c.requires.1) (listing_tells x.moves _ x.into _ (c.in-Err.is ∙ ap Err c.in-Refused.is)))
