@@ -120,5 +120,6 @@ pub fn reply(t: &[u64; 4096], line: &[u8], out: &mut [u8; 196608]) -> usize
     if 10000 < depth {
         return reply::put_refused(Refusal::Text, out);
     }
-    answer_with(t, &line[..j - 1], small(depth), out)
+    let k = j - 1;
+    answer_with(t, &line[..k], small(depth), out)
 }

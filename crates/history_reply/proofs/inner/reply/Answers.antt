@@ -11,8 +11,8 @@ returns-then-j-eq0 c = no_depth c.args.line.now _ c.last-j.ensures c.if-j-eq0.tr
 pub returns-then-depth-gt10000 : goal.returns-then-depth-gt10000
 returns-then-depth-gt10000 c = no_number c.args.line.now _ c.last-j.ensures (omega (arith, c.if-j-eq0.false)) _ c.count-depth.ensures c.if-depth-gt10000.true c.put_refused-then-depth-gt10000.ensures
 
-pub slice_bounds-answer_with-count : goal.slice_bounds-answer_with-count
-slice_bounds-answer_with-count c = sym (length-take-le _ _ (omega arith))
+pub slice_bounds-answer_with-end : goal.slice_bounds-answer_with-end
+slice_bounds-answer_with-end c = sym (length-take-le _ _ (omega arith))
 
 pub returns : goal.returns
 returns c = answered c.args.line.now _ c.last-j.ensures (omega (arith, c.if-j-eq0.false)) _ _ c.count-depth.ensures c.if-depth-gt10000.false c.small.ensures c.answer_with.ensures
