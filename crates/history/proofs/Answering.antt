@@ -27,7 +27,7 @@ use Rattle.refusal.proofs.Saying.{some_number, number_low, number_one, verdict_o
 use Rattle.refusal.proofs.Tested.{beside_refused}
 use Rattle.board.proofs.Passing.{gate_number}
 use Rattle.board.proofs.Numbers.{gate_refuses, gate_passes, passed_gate}
-use Rattle.std.specs.Prelude.{Err, Some, Option, None, Ok, Result}
+use Rattle.std.specs.Prelude.{Err, Some, Option, None, Ok, Result, IsErrAnd, MatchResult, ⊤}
 
 pub some_why : (w : Why) → eqb (why_number w) 0 ≡ false
 some_why (Board r) = some_number r
@@ -73,11 +73,23 @@ module _ (b : RetractableBoard) (n : ℕ) where
       go (inl e) = absurd (f (leb-true 1 n (left _ _ e), leb-true n 4 (right _ _ e)))
       go (inr e) = sym (at_depth h ∙ rw e)
 
-  pub told_yes : gate_of b ≡ nothing_refused → 1 ≤ n → n ≤ 4 → {t : Option History} {g : History} → Tells n b t → t ≡ Some g → Answers b n (Ok (Some g))
-  told_yes h l m s e = record { number = sym (passing h l m); answer = λ _. subst (Tells n b) e s }
+  pub told_in : gate_of b ≡ nothing_refused → 1 ≤ n → n ≤ 4 → (t : Option History) → Tells n b t → Answers b n (Ok t)
+  told_in h l m (Some g) s = record { number = sym (passing h l m); answer = λ _. s }
+  told_in h l m None s = record { number = sym (passing h l m); answer = λ _. s }
 
-  pub told_no : gate_of b ≡ nothing_refused → 1 ≤ n → n ≤ 4 → {t : Option History} → Tells n b t → t ≡ None → Answers b n (Ok None)
-  told_no h l m s e = record { number = sym (passing h l m); answer = λ _. subst (Tells n b) e s }
+-- the gate's verdict, its refusals as those of a board
+abbrev OfBoard : Verdict → Result ⊤ Why → Type 0
+OfBoard v m = MatchResult v (λ z. m ≡ Ok z) (λ e. IsErrAnd m (λ w. w ≡ Board e))
+
+pub gate_let : (v : Verdict) {m : Result ⊤ Why} {z : ⊤} → OfBoard v m → m ≡ Ok z → v ≡ nothing_refused
+gate_let (Ok _) x e = refl
+gate_let (Err r) x e = absurd (subst (λ q. IsErrAnd q (λ w. w ≡ Board r)) e x)
+
+pub gate_told : (b : RetractableBoard) (n : ℕ) (v : Verdict) {m : Result ⊤ Why} {w : Why} → v ≡ gate_of b → OfBoard v m → m ≡ Err w → (r : Result (Option History) Why) → IsErrAnd r (λ e. e ≡ w)
+    → Answers b n r
+gate_told b n (Ok z) g x e r k = absurd (subst (λ (q : Result ⊤ Why). IsErrAnd q (λ _. ⊤)) (sym e ∙ x) tt)
+gate_told b n (Err why) g x e (Ok h) k = absurd k
+gate_told b n (Err why) g x e (Err w) k = subst (λ (q : Why). Answers b n (Err q)) (sym (subst (λ q. IsErrAnd q (λ a. a ≡ Board why)) e x) ∙ sym k) (told_refused b n why (sym g))
 
 -- two histories, neither after the other, are one
 same_history : (l m : List ChessRetraction) → length l ≡ length m → NotAfter l m → NotAfter m l → l ≡ m
@@ -127,7 +139,7 @@ pub one_answer : (b : RetractableBoard) (n : ℕ) (r s : Result (Option History)
 one_answer b n (Ok (Some g)) (Ok (Some h)) x y =
     let u = x.answer (sym x.number) in
     let v = y.answer (sym y.number) in
-    ap Ok (Some (u.2 ∙ ap history_of (one_first n b u.0 v.0 u.1 v.1) ∙ sym v.2))
+    ap (λ (k : History). Ok (Some k)) (u.2 ∙ ap history_of (one_first n b u.0 v.0 u.1 v.1) ∙ sym v.2)
 one_answer b n (Ok (Some g)) (Ok None) x y = let u = x.answer (sym x.number) in absurd (y.answer (sym y.number) u.0 u.1.long u.1.chain)
 one_answer b n (Ok None) (Ok (Some h)) x y = let v = y.answer (sym y.number) in absurd (x.answer (sym x.number) v.0 v.1.long v.1.chain)
 one_answer b n (Ok None) (Ok None) x y = refl

@@ -18,23 +18,13 @@ use Rattle.strict.specs.declared.Placed.{Placed}
 use Rattle.strict.specs.Onward.{FirstFrom, NoneFrom, FoundFrom, Finds}
 use Rattle.chains.specs.Chains.{Chain}
 use Rattle.history.specs.declared.History.{History}
-use Rattle.history.specs.Histories.{NotAfter, NoHistory, after_move, history_of, Tells}
+use Rattle.history.specs.Histories.{NotAfter, NoHistory, after_move, Tells}
 use Rattle.history.specs.inner.Searching.{NoneBelow}
 use Rattle.squares.proofs.Testing.{order}
 use Rattle.strict.proofs.Onward.{within, one_place}
 use Rattle.chains.proofs.Boards.{chain_on, past_gate, past_turn}
 use Rattle.refusal.specs.Refusals.{nothing_refused}
-use Rattle.std.specs.Prelude.{Result, Option, Ok, Some, None, Err}
-
--- no ply: the history of no moves
-pub told_none : (b : RetractableBoard) {h : History} {n : ℕ} → n ≡ 0 → h ≡ history_of [] → Tells n b (Some h)
-told_none b e q = ([], record { long = sym e; chain = tt; least = λ m l c. tt }, q)
-
-pub none_below : (n : ℕ) (b : RetractableBoard) → NoneBelow n b 0
-none_below n b r l m e c = no m
-  where
-    no : {k : ℕ} → k < 0 → ⊥
-    no m = omega arith
+use Rattle.std.specs.Prelude.{Result, Option, Ok, Some, None}
 
 module _ (b : RetractableBoard) (h : gate_of b ≡ nothing_refused) (n i : ℕ) (some : (n ≡ 0) → ⊥) (none : NoneBelow n b i) where
   latest : (r : ChessRetraction) (l : List ChessRetraction) → Chain (r ∷ l) b → Past b r
@@ -102,18 +92,15 @@ module _ (b : RetractableBoard) (h : gate_of b ≡ nothing_refused) (n i : ℕ) 
 
 -- what a step through the strict list found
 module _ (b : RetractableBoard) (i : ℕ) {r : Result (Option Placed) Refusal} (f : Finds b i r) (h : gate_of b ≡ nothing_refused) where
-  pub found_is : {x : Placed} → r ≡ Ok (Some x) → (x.place ≡ place x.retraction) × FirstFrom b i x.retraction
-  found_is e = subst (FoundFrom b i) e (f.found h)
+  pub found_is : {x : Placed} {o : Option Placed} → r ≡ Ok o → o ≡ Some x → (x.place ≡ place x.retraction) × FirstFrom b i x.retraction
+  found_is e s = subst (FoundFrom b i) (e ∙ ap Ok s) (f.found h)
 
   pub ended : r ≡ (Ok None) → NoneFrom b i
   ended e = subst (FoundFrom b i) e (f.found h)
 
-  pub never_refused : {why : Refusal} → r ≡ Err why → ⊥
-  never_refused e = subst (FoundFrom b i) e (f.found h)
-
   -- the next look starts behind the place found
-  pub place_on : {x : Placed} → r ≡ Ok (Some x) → (i ≤ x.place) × (x.place + 1 ≤ 49152)
-  place_on e = let z = found_is e in (at_least z.0 z.1.on, at_most z.0 (within b h _ z.1.past))
+  pub place_on : {x : Placed} {o : Option Placed} → r ≡ Ok o → o ≡ Some x → (i ≤ x.place) × (x.place + 1 ≤ 49152)
+  place_on e s = let z = found_is e s in (at_least z.0 z.1.on, at_most z.0 (within b h _ z.1.past))
     where
       at_least : {p q : ℕ} → p ≡ q → i ≤ q → i ≤ p
       at_least a b = omega arith

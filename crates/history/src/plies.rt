@@ -59,6 +59,8 @@ fn earlier(t: &[u64; 4096], b: RetractableBoard, r: ChessRetraction) -> Retracta
     board::inner::moving::unmade(t, b, r)
 }
 
+// Two functions and no cycle of one by the side, since the request has White's ply ask Black's and Black's White's.
+
 // White has moved last: the first of its strict retractions before which Black has one ply less. An accepted board is refused no step.
 #[cycle(black_ply_white_ply)]
 fn white_ply(t: &[u64; 4096], b: RetractableBoard, depth: u8) -> Option<History>
@@ -69,28 +71,14 @@ fn white_ply(t: &[u64; 4096], b: RetractableBoard, depth: u8) -> Option<History>
         return Some(no_plies());
     }
     let mut at: usize = 0;
-    loop {
-        let s = strict::inner::strict_from(t, b, at);
-        match s {
-            Ok(Some(x)) => {
-                let r = x.retraction;
-                let h = black_ply(t, earlier(t, b, r), depth - 1);
-                match h {
-                    Some(l) => {
-                        return Some(after_move(r, l));
-                    }
-                    None => {}
-                }
-                at = x.place + 1;
-            }
-            Ok(None) => {
-                return None;
-            }
-            Err(_) => {
-                return None;
-            }
+    while let Ok(Some(x)) = strict::inner::strict_from(t, b, at) {
+        let r = x.retraction;
+        if let Some(l) = black_ply(t, earlier(t, b, r), depth - 1) {
+            return Some(after_move(r, l));
         }
+        at = x.place + 1;
     }
+    None
 }
 
 // Black has moved last.
@@ -103,28 +91,14 @@ fn black_ply(t: &[u64; 4096], b: RetractableBoard, depth: u8) -> Option<History>
         return Some(no_plies());
     }
     let mut at: usize = 0;
-    loop {
-        let s = strict::inner::strict_from(t, b, at);
-        match s {
-            Ok(Some(x)) => {
-                let r = x.retraction;
-                let h = white_ply(t, earlier(t, b, r), depth - 1);
-                match h {
-                    Some(l) => {
-                        return Some(after_move(r, l));
-                    }
-                    None => {}
-                }
-                at = x.place + 1;
-            }
-            Ok(None) => {
-                return None;
-            }
-            Err(_) => {
-                return None;
-            }
+    while let Ok(Some(x)) = strict::inner::strict_from(t, b, at) {
+        let r = x.retraction;
+        if let Some(l) = white_ply(t, earlier(t, b, r), depth - 1) {
+            return Some(after_move(r, l));
         }
+        at = x.place + 1;
     }
+    None
 }
 
 // The ply of the side that has moved last.

@@ -1,5 +1,5 @@
 -- What the buffer shows: the text, and under it the plies or `none`.
-use mathlib.Core.Path.{◌≡◌, refl, sym, ap, subst}
+use mathlib.Core.Path.{◌≡◌, refl, sym, ap, ◌∙◌, subst}
 use mathlib.Core.Bool.{Bool, true, false, cond}
 use mathlib.Core.List.{List, [], ◌++◌}
 use Prim.Native.Nat.{ℕ, zero, suc, ◌+◌, ◌≤◌}
@@ -120,16 +120,16 @@ module _ (b : RetractableBoard) (o o₁ : List ℕ) (m : ℕ) (s : Shows (text_o
       shown o o₂ (text_on b ++ newline ++ t) n all (omega (arith, e, s.size, room, h))
 
   module _ (d n : ℕ) (o₂ : List ℕ) (told : Result (Option History) Why) where
-    pub past_shown : (h : History) → told ≡ Ok (Some h) → 1 ≤ d → d ≤ 4 → Adds o₁ m (plies_text (take d (plies_of h))) n o₂ → Shows (history_text b d told) n o o₂
-    past_shown h e i j a =
-        subst (λ (r : Result (Option History) Why). Shows (history_text b d r) n o o₂) (sym e) (under (plies_text (take d (plies_of h))) (plies_short d h i j) n o₂ a)
+    pub past_shown : (h : History) {t : Option History} → told ≡ Ok t → t ≡ Some h → 1 ≤ d → d ≤ 4 → Adds o₁ m (plies_text (take d (plies_of h))) n o₂ → Shows (history_text b d told) n o o₂
+    past_shown h e q i j a =
+        subst (λ (r : Result (Option History) Why). Shows (history_text b d r) n o o₂) (sym (e ∙ ap Ok q)) (under (plies_text (take d (plies_of h))) (plies_short d h i j) n o₂ a)
 
-    pub none_shown : told ≡ (Ok None) → Adds o₁ m none_text n o₂ → Shows (history_text b d told) n o o₂
-    none_shown e a = subst (λ (r : Result (Option History) Why). Shows (history_text b d r) n o o₂) (sym e) (under none_text (omega arith) n o₂ a)
+    pub none_shown : {t : Option History} → told ≡ Ok t → t ≡ None → Adds o₁ m none_text n o₂ → Shows (history_text b d told) n o o₂
+    none_shown e q a = subst (λ (r : Result (Option History) Why). Shows (history_text b d r) n o o₂) (sym (e ∙ ap Ok q)) (under none_text (omega arith) n o₂ a)
 
 -- a history is told of a depth from 1 to 4
-pub past_depth : (b : RetractableBoard) (n : ℕ) (told : Result (Option History) Why) (h : History) → Answers b n told → told ≡ Ok (Some h) → (1 ≤ n) × (n ≤ 4)
-past_depth b n told h x e = let p = passed b n (sym (subst (Answers b n) e x).number) in (p.1, p.2)
+pub past_depth : (b : RetractableBoard) (n : ℕ) (told : Result (Option History) Why) (h : History) → Answers b n told → {t : Option History} → told ≡ Ok t → t ≡ Some h → (1 ≤ n) × (n ≤ 4)
+past_depth b n told h x e q = let p = passed b n (sym (subst (Answers b n) (e ∙ ap Ok q) x).number) in (p.1, p.2)
 
 pub refused_shown : (b : RetractableBoard) (d n x : ℕ) (o out : List ℕ) (told : Result (Option History) Why) (why : Why) → told ≡ Err why → x ≡ why_number why
     → Shows (refused_text x) n o out → Shows (history_text b d told) n o out

@@ -16,7 +16,7 @@ use refusal::Refusal;
 pub fn small(depth: u16) -> u8
     ensures { result ≡ min depth 255 }
 {
-    if depth < 255 { depth as u8 } else { 255 }
+    depth.min(255) as u8
 }
 
 // A ply, to a line.
@@ -55,8 +55,7 @@ fn put_plies(out: &mut [u8], len: usize, h: History, depth: u8) -> usize
 fn put_text(b: RetractableBoard, out: &mut [u8; 196608]) -> usize
     ensures { Shows (text_on b ++ newline) result out.old out.new × (result + 36 ≤ length out.old) }
 {
-    let p = text::inner::print(b, out);
-    match p {
+    match text::inner::print(b, out) {
         Ok(n) => output::put_bytes(out, n, b"\n").unwrap_or(n),
         Err(_) => 0,
     }
@@ -99,8 +98,7 @@ pub fn answer_with(t: &[u64; 4096], text: &[u8], depth: u8, out: &mut [u8; 19660
     ensures { AnswersText text.now depth result out.old out.new }
 {
     let r = text::inner::read(t, text, Edition::A);
-    let v = r.verdict;
-    match v {
+    match r.verdict {
         Err(why) => reply::put_refused(why, out),
         Ok(()) => {
             let b = r.board;

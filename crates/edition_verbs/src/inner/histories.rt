@@ -1,7 +1,7 @@
 // The plies of a history, put packed behind `yes`, the latest first.
 ghost use Rattle.puts.specs.inner.Growing.{Grows};
 
-use history::History;
+use history::{History, Why};
 use laws::ChessRetraction;
 
 // `no`, or `yes` and so many plies.

@@ -1,23 +1,14 @@
 -- `history::inner::history_of` meets its contract.
 use mathlib.Core.Path.{sym, ◌∙◌}
-use native.Mathlib.Omega.{arith}
-use Rattle.history.proofs.Answering.{told_refused, told_depth, told_yes, told_no}
+use borrow.Author.Rules.{rules}
+use Rattle.history.proofs.Answering.{gate_let, gate_told, told_depth, told_in}
 use Rattle.history.proofs.inner.history_of.Goals as goal
 
-pub returns-then-depth-lt-LEAST : goal.returns-then-depth-lt-LEAST
-returns-then-depth-lt-LEAST c = told_depth _ _ (sym c.gate-v.ensures ∙ c.in-Ok.is) (λ q. omega (arith, q.0, c.if-depth-lt-LEAST.true))
+pub returns-in_err-map_err : goal.returns-in_err-map_err
+returns-in_err-map_err c = gate_told _ _ _ c.gate.ensures c.map_err.ensures.cases c.in_err-map_err.was _ c.from_residual.ensures.1
 
-pub returns-then-depth-gt4 : goal.returns-then-depth-gt4
-returns-then-depth-gt4 c = told_depth _ _ (sym c.gate-v.ensures ∙ c.in-Ok.is) (λ q. omega (arith, q.1, c.if-depth-gt4.true))
+pub returns-then-not-contains : goal.returns-then-not-contains
+returns-then-not-contains c = told_depth _ _ (sym c.gate.ensures ∙ gate_let _ c.map_err.ensures.cases c.in_ok-map_err.was) (λ q. search rules)
 
-pub last_ply-h-requires : goal.last_ply-h-requires
-last_ply-h-requires c = (c.requires, sym c.gate-v.ensures ∙ c.in-Ok.is)
-
-pub returns-in-Err : goal.returns-in-Err
-returns-in-Err c = told_refused _ _ _ (sym c.gate-v.ensures ∙ c.in-Err.is)
-
-pub returns-in-Yes : goal.returns-in-Yes
-returns-in-Yes c = told_yes _ _ (sym c.gate-v.ensures ∙ c.in-Ok.is) c.if-depth-lt-LEAST.false c.if-depth-gt4.false c.last_ply-h.ensures c.in-Yes.is
-
-pub returns-in-No : goal.returns-in-No
-returns-in-No c = told_no _ _ (sym c.gate-v.ensures ∙ c.in-Ok.is) c.if-depth-lt-LEAST.false c.if-depth-gt4.false c.last_ply-h.ensures c.in-No.is
+pub returns : goal.returns
+returns c = told_in _ _ (sym c.gate.ensures ∙ gate_let _ c.map_err.ensures.cases c.in_ok-map_err.was) (search rules) (search rules) _ c.last_ply.ensures

@@ -8,8 +8,8 @@ use Rattle.history_reply.proofs.Shown.{text_shown}
 use borrow.Author.Rules.{rules}
 use Rattle.history_reply.proofs.inner.put_text.Goals as goal
 
-pub returns-in-Count : goal.returns-in-Count
-returns-in-Count c = let a = c.args in text_shown a.b a.out.now _ _ _ _ (search rules) (tells_count c.print-p.ensures _ (ap copied_says c.in-Count.is)) (used_adds _ _ _ _ _ c.put_bytes.ensures _ c.unwrap_or.ensures)
+pub returns-in-Ok : goal.returns-in-Ok
+returns-in-Ok c = let a = c.args in text_shown a.b a.out.now _ _ _ _ (search rules) (tells_count c.print.ensures _ (ap copied_says c.in-Ok.is)) (used_adds _ _ _ _ _ c.put_bytes.ensures _ c.unwrap_or.ensures)
 
-pub returns-in-Room : goal.returns-in-Room
-returns-in-Room c = let a = c.args in absurd (never_room a.b a.out.now _ _ (search rules) (tells_room c.print-p.ensures _ (ap copied_says c.in-Room.is)))
+pub returns-in-Err : goal.returns-in-Err
+returns-in-Err c = let a = c.args in absurd (never_room a.b a.out.now _ _ (search rules) (tells_room c.print.ensures _ (ap copied_says c.in-Err.is)))
