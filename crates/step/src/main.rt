@@ -2,14 +2,13 @@
 // lines of standard input, each with its presses behind it.
 #![tactic(auto)]
 
-ghost use Rattle.std.specs.Prelude.{◌≤◌, IfSome};
+ghost use Rattle.std.specs.Prelude.{◌≤◌, IfOk, IfSome};
 ghost use Rattle.geometry.specs.Lines.{IsBetween};
 ghost use Rattle.io.specs.Counts.{IsPrefixLen};
 
-use input::{Cursor, Step};
-use laws::{ChessRetraction, Edition};
-use presses::Press;
-use refusal::{Refusal, Verdict};
+use laws::Edition;
+use presses::Presses;
+use refusal::Refusal;
 use retraction_gen::RetractionGen;
 use screen::Screen;
 use slots::Unlisted;
@@ -20,21 +19,11 @@ use std::rt::Env;
 mod keys; // keys.rt: the keys of a terminal
 mod presses; // presses.rt: the presses that standard input brings
 
-// A screen, and how many slots its strict list has. Where the text was refused `is_open` is false; where its answer could not be written,
-// `is_written`.
+// A screen, and how many slots its strict list has.
 #[derive(Drop)]
 struct Opened {
     screen: Screen,
     strict: usize,
-    is_open: bool,
-    is_written: bool,
-}
-
-// What is unread behind the presses of a text; `is_over` where nothing more is to be read, or can be written.
-#[derive(Drop)]
-struct Left {
-    unread: Cursor,
-    is_over: bool,
 }
 
 fn main(rt: HostRuntime) {
@@ -43,23 +32,15 @@ fn main(rt: HostRuntime) {
     let mut line = io::large_buffer();
     let mut strict = [0u16; 8192];
     let mut out = [0u8; 196608];
-    let start = input::start();
-    if let Some(len) = argument(&rt, &mut line) {
-        let by_key = rt.stdin().is_terminal();
-        show(
-            &rt,
-            &t,
-            by_key,
-            len,
-            start,
-            &mut chunk,
-            &mut line,
-            &mut strict,
-            &mut out,
-        );
-        return;
+    let text = argument(&rt, &mut line);
+    let by_key = text.is_some() && rt.stdin().is_terminal();
+    let mut presses = Presses::new(&rt, by_key, &mut chunk, &mut line);
+    match text {
+        Some(len) => {
+            show(&rt, &t, &mut presses, len, &mut strict, &mut out);
+        }
+        None => show_all(&rt, &t, &mut presses, &mut strict, &mut out),
     }
-    show_all(&rt, &t, start, &mut chunk, &mut line, &mut strict, &mut out);
 }
 
 // How many bytes of the first argument are in `line`, if there is one: none of one that is longer.
@@ -75,202 +56,108 @@ fn argument(env: &impl Env, line: &mut [u8; 65536]) -> Option<usize>
 
 // Each text of standard input, which does not use the turns up. `t` is the table of squares between, lent.
 fn show_all(
-    rt: &(impl Input + Print + Eprint),
+    rt: &(impl Print + Eprint),
     t: &[u64; 4096],
-    start: Cursor,
-    chunk: &mut [u8; 65536],
-    line: &mut [u8; 65536],
+    presses: &mut Presses<impl Input + Eprint>,
     strict: &mut [u16; 8192],
     out: &mut [u8; 196608],
 )
     requires { IsBetween t.now }
 {
-    let mut c = start;
     for _ in 0..u64::MAX {
-        let s = input::next(rt, chunk, line, c);
-        match s {
-            Step::End => {
-                return;
-            }
-            Step::Failed => {
-                presses::failed(rt);
-                return;
-            }
-            Step::Line { len, long: _, next } => {
-                let left = show(rt, t, false, len, next, chunk, line, strict, out);
-                if left.is_over {
-                    return;
-                }
-                c = left.unread;
-            }
+        let Some(len) = presses.next_line() else {
+            return;
+        };
+        if !show(rt, t, presses, len, strict, out) {
+            return;
         }
     }
 }
 
-// The text in the first `len` bytes of `line`, and its presses.
+// The text in the first `len` bytes of the line, and its presses; false where nothing more is to be read, or can be written.
 fn show(
-    rt: &(impl Input + Print + Eprint),
-    t: &[u64; 4096],
-    by_key: bool,
-    len: usize,
-    unread: Cursor,
-    chunk: &mut [u8; 65536],
-    line: &mut [u8; 65536],
-    strict: &mut [u16; 8192],
-    out: &mut [u8; 196608],
-) -> Left
-    requires { IsBetween t.now × (len ≤ 65536) }
-{
-    let text: &[u8] = line;
-    let o = open(rt, t, &text[..len], strict, out);
-    let is_over = !o.is_written;
-    if is_over | !o.is_open {
-        return Left { unread, is_over };
-    }
-    let screen = o.screen;
-    let n = o.strict;
-    let slots: &[u16] = strict;
-    step_through(rt, t, by_key, screen, unread, chunk, line, &slots[..n], out)
-}
-
-// The board of a text, its cursor and its strict list: refusals 14, 1 to 6, 8, 13. The opening or the refusal is written.
-fn open(
     rt: &(impl Print + Eprint),
     t: &[u64; 4096],
-    text: &[u8],
+    presses: &mut Presses<impl Input + Eprint>,
+    len: usize,
     strict: &mut [u16; 8192],
     out: &mut [u8; 196608],
-) -> Opened
+) -> bool
+    requires { IsBetween t.now × (len ≤ 65536) }
+{
+    let line = &*presses.line;
+    match open(t, &line[..len], strict) {
+        Err(why) => {
+            let n = reply::put_refused(why, out);
+            write(rt, out, n)
+        }
+        Ok(opened) => {
+            let n = screen::opening(opened.screen.board, out);
+            write(rt, out, n)
+                && step_through(rt, t, presses, opened.screen, &strict[..opened.strict], out)
+        }
+    }
+}
+
+// The board of a text, its cursor and its strict list: refusals 14, 1 to 6, 8, 13.
+fn open(t: &[u64; 4096], text: &[u8], strict: &mut [u16; 8192]) -> Result<Opened, Refusal>
     requires { IsBetween t.now }
-    ensures { result.strict ≤ 8192 }
+    ensures { IfOk result (λ o. o.strict ≤ 8192) }
 {
     let b = text::inner::read(t, text, Edition::A);
+    b.verdict?;
     let board = b.board;
     let m = RetractionGen::new_legal(board);
-    let cursor = m.cursor;
+    m.verdict?;
     let screen = Screen {
         board,
-        cursor,
+        cursor: m.cursor,
         listed: 0,
         strict: 0,
     };
-    let read = b.verdict;
-    let made = m.verdict;
-    let v = first_of(read, made);
-    match v {
-        Err(why) => closed(rt, screen, why, out),
-        Ok(()) => listed(rt, t, screen, strict, out),
+    match strict::inner::strict_into(t, board, strict) {
+        Ok(strict) => Ok(Opened { screen, strict }),
+        Err(Unlisted::Room(_)) => Err(Refusal::Room),
+        Err(Unlisted::Refused(why)) => Err(why),
     }
 }
 
-fn first_of(a: Verdict, b: Verdict) -> Verdict {
-    match a {
-        Err(why) => Err(why),
-        Ok(()) => b,
-    }
-}
-
-fn closed(
-    rt: &(impl Print + Eprint),
-    screen: Screen,
-    why: Refusal,
-    out: &mut [u8; 196608],
-) -> Opened
-    ensures { result.strict ≤ 8192 }
-{
-    let n = reply::put_refused(why, out);
-    let is_written = write(rt, out, n);
-    Opened {
-        screen,
-        strict: 0,
-        is_open: false,
-        is_written,
-    }
-}
-
-fn listed(
-    rt: &(impl Print + Eprint),
-    t: &[u64; 4096],
-    screen: Screen,
-    strict: &mut [u16; 8192],
-    out: &mut [u8; 196608],
-) -> Opened
-    requires { IsBetween t.now }
-    ensures { result.strict ≤ 8192 }
-{
-    let board = screen.board;
-    let l = strict::inner::strict_into(t, board, strict);
-    match l {
-        Ok(strict) => {
-            let n = screen::opening(board, out);
-            let is_written = write(rt, out, n);
-            Opened {
-                screen,
-                strict,
-                is_open: true,
-                is_written,
-            }
-        }
-        Err(Unlisted::Room(_)) => closed(rt, screen, Refusal::Room, out),
-        Err(Unlisted::Refused(why)) => closed(rt, screen, why, out),
-    }
-}
-
-// A press after the other, up to the end of the list or to `q`.
+// A press after the other, up to the end of the list or to `q`; false where nothing more is to be read, or can be written.
 fn step_through(
-    rt: &(impl Input + Print + Eprint),
+    rt: &(impl Print + Eprint),
     t: &[u64; 4096],
-    by_key: bool,
+    presses: &mut Presses<impl Input + Eprint>,
     start: Screen,
-    unread: Cursor,
-    chunk: &mut [u8; 65536],
-    line: &mut [u8; 65536],
     strict: &[u16],
     out: &mut [u8; 196608],
-) -> Left
+) -> bool
     requires { IsBetween t.now }
 {
     let mut s = start;
-    let mut c = unread;
     for _ in 0..u64::MAX {
-        let p = presses::next(rt, by_key, chunk, line, c);
-        let Press::Key(byte, next) = p else {
-            return left_at(c, true);
+        let Some(byte) = presses.next() else {
+            return false;
         };
         if byte == b'q' {
-            return left_at(next, false);
+            return true;
         }
         let z = screen::inner::press(t, s, strict, out);
         if !write(rt, out, z.size) {
-            return left_at(next, true);
+            return false;
         }
-        let answer = z.next;
-        if is_end(answer) {
-            return left_at(next, false);
+        if z.next.is_none() {
+            return true;
         }
         s = z.screen;
-        c = next;
     }
-    left_at(c, true)
-}
-
-fn left_at(unread: Cursor, is_over: bool) -> Left {
-    Left { unread, is_over }
-}
-
-fn is_end(answer: Option<ChessRetraction>) -> bool {
-    match answer {
-        Some(_) => false,
-        None => true,
-    }
+    false
 }
 
 // The first n bytes, in one write; false where they cannot be written, which is told, but where the reader is gone.
 fn write(rt: &(impl Print + Eprint), out: &[u8; 196608], n: usize) -> bool
     requires { IsPrefixLen n out.now }
 {
-    let printed: &[u8] = out;
-    let Err(why) = rt.write_all(&printed[..n]) else {
+    let Err(why) = rt.write_all(&out[..n]) else {
         return true;
     };
     if !matches!(why.kind(), ErrorKind::BrokenPipe) {

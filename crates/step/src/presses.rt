@@ -1,38 +1,87 @@
 // The presses that standard input brings: on a terminal each key is one, elsewhere each line.
+ghost use Rattle.std.specs.Prelude.{◌≤◌, IfSome};
+
 use super::keys;
 use input::{Cursor, Step};
-use std::io::Input;
+use std::io::{Input, Read};
 
-// A press by its first byte, 0 for an empty line, and what is unread behind it; or no more.
+// Where presses come from, by keys or by lines: what was read last, the last line, and what is unread.
 #[derive(Drop)]
-pub enum Press {
-    Key(u8, Cursor),
-    Over,
-}
-
-pub(super) fn next(
-    rt: &(impl Input + Eprint),
+pub struct Presses<'a, R> {
+    rt: &'a R,
     by_key: bool,
-    chunk: &mut [u8; 65536],
-    line: &mut [u8; 65536],
-    c: Cursor,
-) -> Press {
-    if by_key {
-        return keys::next(rt, chunk, c);
+    chunk: &'a mut [u8; 65536],
+    pub line: &'a mut [u8; 65536],
+    unread: Cursor,
+}
+
+impl<'a, R: Input + Eprint> Presses<'a, R> {
+    pub(super) fn new(
+        rt: &'a R,
+        by_key: bool,
+        chunk: &'a mut [u8; 65536],
+        line: &'a mut [u8; 65536],
+    ) -> Presses<'a, R> {
+        Presses {
+            rt,
+            by_key,
+            chunk,
+            line,
+            unread: input::start(),
+        }
     }
-    let s = input::next(rt, chunk, line, c);
-    match s {
-        Step::Line { len, long: _, next } => Press::Key(first(line, len), next),
-        Step::End => Press::Over,
-        Step::Failed => failed(rt),
+
+    // A press by its first byte, 0 for an empty line; or no more.
+    pub(super) fn next(&mut self) -> Option<u8> {
+        if self.by_key {
+            return self.next_key();
+        }
+        let len = self.next_line()?;
+        if len == 0 {
+            Some(0)
+        } else {
+            Some(self.line[0])
+        }
+    }
+
+    // How many bytes of the next line are in `line`, if there is one.
+    pub(super) fn next_line(&mut self) -> Option<usize>
+        ensures { IfSome result (λ n. n ≤ 65536) }
+    {
+        match input::next(self.rt, self.chunk, self.line, self.unread) {
+            Step::Line { len, long: _, next } => {
+                self.unread = next;
+                Some(len)
+            }
+            Step::End => None,
+            Step::Failed => {
+                failed(self.rt);
+                None
+            }
+        }
+    }
+
+    // A key that is read already, or else the first of the next read. `^D` ends the presses, as the end of a file does.
+    fn next_key(&mut self) -> Option<u8> {
+        if self.unread.at >= self.unread.end {
+            let Ok(end) = self.rt.reader().read(self.chunk) else {
+                failed(self.rt);
+                return None;
+            };
+            self.unread = Cursor { at: 0, end };
+        }
+        let at = self.unread.at;
+        let chunk = &*self.chunk;
+        let read = chunk.get(..self.unread.end)?;
+        let byte = *read.get(at)?;
+        if byte == 4 {
+            return None;
+        }
+        self.unread.at = keys::past(read, at);
+        Some(byte)
     }
 }
 
-pub(super) fn failed(stderr: &impl Eprint) -> Press {
+fn failed(stderr: &impl Eprint) {
     let _ = eprintln!(stderr; "step: the input cannot be read");
-    Press::Over
-}
-
-fn first(line: &[u8; 65536], len: usize) -> u8 {
-    if len == 0 { 0 } else { line[0] }
 }

@@ -1,9 +1,0 @@
--- The bytes up to i are within the bounds.
-use Rattle.std.proofs.Common.{◌≤◌, ◌-◌}
-use Rattle.step.proofs.keys.skip.Given as goal
-
-abbrev pub invariant-loop-i : goal.invariant-loop-i
-invariant-loop-i l = l.i ≤ l.end
-
-abbrev pub decreases-loop-i : goal.decreases-loop-i
-decreases-loop-i l = l.end - l.i
