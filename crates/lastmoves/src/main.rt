@@ -1,29 +1,31 @@
 // Answers each line of standard input, a text, with the last moves that its board may have had.
 #![tactic(auto)]
 
-ghost use Rattle.std.specs.Prelude.{◌≤◌};
 ghost use Rattle.geometry.specs.Lines.{IsBetween};
+ghost use Rattle.io.specs.Counts.{IsPrefixLen};
 
 use input::Step;
 use laws::Edition;
 use std::io::{ErrorKind, Input};
 
+// What an answer is made in: the two lists of a board, and what is written of them.
+#[derive(Drop)]
+struct Room {
+    listed: [u16; 8192],
+    strict: [u16; 8192],
+    out: [u8; 196608],
+}
+
 fn main(rt: HostRuntime) {
     let t = tables::between_table();
     let mut chunk = io::large_buffer();
     let mut line = io::large_buffer();
-    let mut listed = [0u16; 8192];
-    let mut strict = [0u16; 8192];
-    let mut out = [0u8; 196608];
-    answer_all(
-        &rt,
-        &t,
-        &mut chunk,
-        &mut line,
-        &mut listed,
-        &mut strict,
-        &mut out,
-    );
+    let mut room = Room {
+        listed: [0; 8192],
+        strict: [0; 8192],
+        out: [0; 196608],
+    };
+    answer_all(&rt, &t, &mut chunk, &mut line, &mut room);
 }
 
 // No input uses the turns up. Where nothing more can be written, nothing more is read. `t` is the table of squares between, lent.
@@ -32,16 +34,13 @@ fn answer_all(
     t: &[u64; 4096],
     chunk: &mut [u8; 65536],
     line: &mut [u8; 65536],
-    listed: &mut [u16; 8192],
-    strict: &mut [u16; 8192],
-    out: &mut [u8; 196608],
+    room: &mut Room,
 )
     requires { IsBetween t.now }
 {
     let mut c = input::start();
     for _ in 0..u64::MAX {
-        let s = input::next(rt, chunk, line, c);
-        match s {
+        match input::next(rt, chunk, line, c) {
             Step::End => {
                 return;
             }
@@ -50,7 +49,7 @@ fn answer_all(
                 return;
             }
             Step::Line { len, long: _, next } => {
-                if !answer_line(rt, t, line, len, listed, strict, out) {
+                if !answer_line(rt, t, &line[..len], room) {
                     return;
                 }
                 c = next;
@@ -59,22 +58,26 @@ fn answer_all(
     }
 }
 
-// One write a line; false where it cannot be written, which is told, but where the reader is gone. A line longer than its buffer has no form, and neither have its first 65,536 bytes.
-fn answer_line(
-    rt: &(impl Print + Eprint),
-    t: &[u64; 4096],
-    line: &[u8; 65536],
-    len: usize,
-    listed: &mut [u16; 8192],
-    strict: &mut [u16; 8192],
-    out: &mut [u8; 196608],
-) -> bool
-    requires { IsBetween t.now × (len ≤ 65536) }
+// One write a line; false where it cannot be written. A line longer than its buffer has no form, and neither have its first 65,536 bytes.
+fn answer_line(rt: &(impl Print + Eprint), t: &[u64; 4096], text: &[u8], room: &mut Room) -> bool
+    requires { IsBetween t.now }
 {
-    let text: &[u8] = line;
-    let n = reply::inner::reply(t, &text[..len], Edition::A, listed, strict, out);
-    let printed: &[u8] = out;
-    let Err(why) = rt.write_all(&printed[..n]) else {
+    let n = reply::inner::reply(
+        t,
+        text,
+        Edition::A,
+        &mut room.listed,
+        &mut room.strict,
+        &mut room.out,
+    );
+    write(rt, &room.out, n)
+}
+
+// The first n bytes, in one write; false where they cannot be written, which is told, but where the reader is gone.
+fn write(rt: &(impl Print + Eprint), out: &[u8; 196608], n: usize) -> bool
+    requires { IsPrefixLen n out.now }
+{
+    let Err(why) = rt.write_all(&out[..n]) else {
         return true;
     };
     if !matches!(why.kind(), ErrorKind::BrokenPipe) {

@@ -12,20 +12,23 @@ use std::io::{ErrorKind, Input};
 
 mod counters; // counters.rt: the two counters of a text that is sent out
 
+// What an answer is made in: the two lists of a board, and what is written of them.
+#[derive(Drop)]
+struct Room {
+    listed: [u16; 8192],
+    strict: [u16; 8192],
+    out: [u8; 196608],
+}
+
 fn main(rt: HostRuntime) {
     let mut chunk = io::large_buffer();
     let mut line = io::large_buffer();
-    let mut listed = [0u16; 8192];
-    let mut strict = [0u16; 8192];
-    let mut out = [0u8; 196608];
-    answer_all(
-        &rt,
-        &mut chunk,
-        &mut line,
-        &mut listed,
-        &mut strict,
-        &mut out,
-    );
+    let mut room = Room {
+        listed: [0; 8192],
+        strict: [0; 8192],
+        out: [0; 196608],
+    };
+    answer_all(&rt, &mut chunk, &mut line, &mut room);
 }
 
 // No input uses the turns up. Where nothing more can be written, nothing more is read.
@@ -33,14 +36,11 @@ fn answer_all(
     rt: &(impl Input + Print + Eprint),
     chunk: &mut [u8; 65536],
     line: &mut [u8; 65536],
-    listed: &mut [u16; 8192],
-    strict: &mut [u16; 8192],
-    out: &mut [u8; 196608],
+    room: &mut Room,
 ) {
     let mut c = input::start();
     for _ in 0..u64::MAX {
-        let s = input::next(rt, chunk, line, c);
-        match s {
+        match input::next(rt, chunk, line, c) {
             Step::End => {
                 return;
             }
@@ -49,7 +49,7 @@ fn answer_all(
                 return;
             }
             Step::Line { len, long: _, next } => {
-                if !answer_line(rt, line, len, listed, strict, out) {
+                if !answer_line(rt, &line[..len], room) {
                     return;
                 }
                 c = next;
@@ -59,42 +59,13 @@ fn answer_all(
 }
 
 // By the command's letter. A line longer than its buffer is answered for what the buffer holds: no record or text of that length is taken.
-fn answer_line(
-    rt: &(impl Print + Eprint),
-    line: &[u8; 65536],
-    len: usize,
-    listed: &mut [u16; 8192],
-    strict: &mut [u16; 8192],
-    out: &mut [u8; 196608],
-) -> bool
-    requires { len ≤ 65536 }
-{
-    let buffer: &[u8] = line;
-    let asked = &buffer[..len];
-    let letter = letter_of(asked);
-    match letter {
-        b'A' => answer_record(rt, rest(asked), Edition::A, listed, strict, out),
-        b'B' => answer_record(rt, rest(asked), Edition::B, listed, strict, out),
-        b'S' => answer_sent(rt, rest(asked), out),
-        _ => refused(rt, out),
+fn answer_line(rt: &(impl Print + Eprint), line: &[u8], room: &mut Room) -> bool {
+    match line {
+        [b'A', b' ', record @ ..] => answer_record(rt, record, Edition::A, room),
+        [b'B', b' ', record @ ..] => answer_record(rt, record, Edition::B, room),
+        [b'S', b' ', sent @ ..] => answer_sent(rt, sent, &mut room.out),
+        _ => refused(rt, &mut room.out),
     }
-}
-
-// The letter before a space; a newline, which is none, where no space stands there.
-fn letter_of(line: &[u8]) -> u8 {
-    if fields::inner::byte(line, 1) == b' ' {
-        fields::inner::byte(line, 0)
-    } else {
-        b'\n'
-    }
-}
-
-// What stands behind the letter and its space.
-fn rest(line: &[u8]) -> &[u8] {
-    if line.len() < 2 {
-        return &line[..0];
-    }
-    &line[2..]
 }
 
 fn refused(rt: &(impl Print + Eprint), out: &mut [u8; 196608]) -> bool {
@@ -106,8 +77,7 @@ fn refused(rt: &(impl Print + Eprint), out: &mut [u8; 196608]) -> bool {
 fn write(rt: &(impl Print + Eprint), out: &[u8; 196608], n: usize) -> bool
     requires { IsPrefixLen n out.now }
 {
-    let printed: &[u8] = out;
-    let Err(why) = rt.write_all(&printed[..n]) else {
+    let Err(why) = rt.write_all(&out[..n]) else {
         return true;
     };
     if !matches!(why.kind(), ErrorKind::BrokenPipe) {
@@ -120,16 +90,20 @@ fn answer_record(
     rt: &(impl Print + Eprint),
     record: &[u8],
     edition: Edition,
-    listed: &mut [u16; 8192],
-    strict: &mut [u16; 8192],
-    out: &mut [u8; 196608],
+    room: &mut Room,
 ) -> bool {
-    let named = record_reply::put_edition(edition, out);
-    if !write(rt, out, named) {
+    let named = record_reply::put_edition(edition, &mut room.out);
+    if !write(rt, &room.out, named) {
         return false;
     }
-    let n = record_reply::reply(record, edition, listed, strict, out);
-    write(rt, out, n)
+    let n = record_reply::reply(
+        record,
+        edition,
+        &mut room.listed,
+        &mut room.strict,
+        &mut room.out,
+    );
+    write(rt, &room.out, n)
 }
 
 // `HALF FULL TEXT`.
@@ -138,10 +112,7 @@ fn answer_sent(rt: &(impl Print + Eprint), line: &[u8], out: &mut [u8; 196608]) 
     let third = fields::inner::after(line, second, b' ');
     let half = counters::at(line, 0);
     let full = counters::at(line, second);
-    if half > 65535 {
-        return refused(rt, out);
-    }
-    if full > 65535 {
+    if half > 65535 || full > 65535 {
         return refused(rt, out);
     }
     let n = record_reply::send(&line[third..], half as u16, full as u16, out);
