@@ -34,13 +34,13 @@ pub no_longer : (n : ℕ) (b : RetractableBoard) → NoHistory n b → NoHistory
 no_longer n b f l e c = let z = shorter n l b e c in f z.0 z.1 z.2
 
 -- "no" at a depth is "no" at the next
-pub no_deeper : (b : RetractableBoard) (n : ℕ) (r : Result (Option History) Why) → n < 4 → Answers b n (Ok None) → Answers b (suc n) r → r ≡ (Ok None)
+pub no_deeper : (b : RetractableBoard) (n : ℕ) (r : Result (Option History) Why) → n < 4 → Answers b n (Ok None) → Answers b (suc n) r → r ≡ Ok None
 no_deeper b n r l x y = go r y
   where
     passes : number_for b (suc n) ≡ 0
     passes = let p = passed b n (sym x.number) in passing b (suc n) p.0 (omega (arith, p.1)) (omega (arith, l))
 
-    go : (s : Result (Option History) Why) → Answers b (suc n) s → s ≡ (Ok None)
+    go : (s : Result (Option History) Why) → Answers b (suc n) s → s ≡ Ok None
     go (Ok (Some h)) z = let u = z.answer passes in absurd (no_longer n b (x.answer (sym x.number)) u.0 u.1.long u.1.chain)
     go (Ok None) z = refl
     go (Err w) z = absurd (never_zero w (z.number ∙ passes))
@@ -64,15 +64,15 @@ module _ (b : RetractableBoard) (r : Result (Option History) Why) (s : Result Bo
   last_number = x.number ∙ one_ply ∙ sym y.number
 
   -- and is answered no exactly where there is no last move
-  pub last_agrees : (r ≡ (Ok None)) ↔ (s ≡ (Ok false))
+  pub last_agrees : (r ≡ Ok None) ↔ (s ≡ Ok false)
   last_agrees = ((λ e. there s (subst (Answers b 1) e x) y), (λ e. back r x (subst (AnswersLast b) e y)))
     where
-      there : (z : Result Bool Refusal) → Answers b 1 (Ok None) → AnswersLast b z → z ≡ (Ok false)
+      there : (z : Result Bool Refusal) → Answers b 1 (Ok None) → AnswersLast b z → z ≡ Ok false
       there (Ok true) u v = let q = (v.exists (passed b 1 (sym u.number)).0).0 refl in absurd (u.answer (sym u.number) (q.0 ∷ []) refl (q.1.0, q.1.1, q.1.2, q.1.3, q.1.4, tt))
       there (Ok false) u v = refl
       there (Err w) u v = no_refusal w (u.number ∙ one_ply ∙ sym v.number)
 
-      back : (z : Result (Option History) Why) → Answers b 1 z → AnswersLast b (Ok false) → z ≡ (Ok None)
+      back : (z : Result (Option History) Why) → Answers b 1 z → AnswersLast b (Ok false) → z ≡ Ok None
       back (Ok (Some h)) u v =
           let z = u.answer (sym u.number) in
           let q = one_move z.0 b z.1.long z.1.chain in

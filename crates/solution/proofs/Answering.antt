@@ -16,8 +16,7 @@ use Rattle.board.specs.Gate.{position_on, pos_on}
 use Rattle.text.specs.Entries.{Reads}
 use Rattle.strict_test.specs.inner.Strictly.{strict_for}
 use Rattle.strict.specs.Demand.{Past}
-use Rattle.solution_lines.specs.declared.Formed.{Formed}
-use Rattle.solution_lines.specs.declared.Formed.TheVariants.{All, Line as formLine, Many as formMany}
+use Rattle.solution_lines.specs.declared.Unformed.TheVariants.{Line as formLine, Many as formMany}
 use Rattle.solution_lines.specs.Lines.{lines_of, TellsForm}
 use Rattle.solution.specs.declared.Why.{Why}
 use Rattle.solution.specs.declared.Why.TheVariants.{Position as positionRefused, Line, Many}
@@ -54,10 +53,6 @@ module _ (S T : ChessRetraction → Type 0) (to : (r : ChessRetraction) → S r 
   tells_too (Err (Line k)) x = x
   tells_too (Err Many) x = x
   tells_too (Err (positionRefused why)) x = absurd x
-
--- what is told of the form, by the answer that it was
-pub form_told : (ls : List (List ℕ)) (f g : Formed) → TellsForm ls f → f ≡ g → TellsForm ls g
-form_told ls f g x e = subst (TellsForm ls) e x
 
 -- what refuses the position refuses the solution, and otherwise nothing is refused
 abbrev OfPosition : Verdict → Result ⊤ Why → Type 0
@@ -97,16 +92,16 @@ module _ (S : ChessRetraction → Type 0) (one : (x y : ChessRetraction) → S x
   one_missing q r x y = one q r x.strict y.strict (omega (arith, x.first r y.strict y.missing, y.first q x.strict x.missing))
 
   -- lines that are all in form are not refused
-  not_both : (w : Why) → TellsForm ls All → Tells S ls (Err w) → ⊥
-  not_both (Line k) x y = let e = one_form ls All (formLine k) x y in omega (arith, (let w : ◌≡◌ {A = ℕ} 0 1 = cc in w))
-  not_both Many x y = let e = one_form ls All formMany x y in omega (arith, (let w : ◌≡◌ {A = ℕ} 0 1 = cc in w))
+  not_both : (w : Why) → TellsForm ls (Ok tt) → Tells S ls (Err w) → ⊥
+  not_both (Line k) x y = let e = one_form ls (Ok tt) (Err (formLine k)) x y in omega (arith, (let w : ◌≡◌ {A = ℕ} 0 1 = cc in w))
+  not_both Many x y = let e = one_form ls (Ok tt) (Err formMany) x y in omega (arith, (let w : ◌≡◌ {A = ℕ} 0 1 = cc in w))
   not_both (positionRefused why) x y = y
 
   one_why : (v w : Why) → Tells S ls (Err v) → Tells S ls (Err w) → v ≡ w
-  one_why (Line k) (Line j) x y = let e = one_form ls (formLine k) (formLine j) x y in let i : k ≡ j = cc in ap Line i
-  one_why (Line k) Many x y = let e = one_form ls (formLine k) formMany x y in absurd (omega (arith, (let w : ◌≡◌ {A = ℕ} 0 1 = cc in w)))
+  one_why (Line k) (Line j) x y = let e = one_form ls (Err (formLine k)) (Err (formLine j)) x y in let i : k ≡ j = cc in ap Line i
+  one_why (Line k) Many x y = let e = one_form ls (Err (formLine k)) (Err formMany) x y in absurd (omega (arith, (let w : ◌≡◌ {A = ℕ} 0 1 = cc in w)))
   one_why (Line k) (positionRefused why) x y = absurd y
-  one_why Many (Line k) x y = let e = one_form ls formMany (formLine k) x y in absurd (omega (arith, (let w : ◌≡◌ {A = ℕ} 0 1 = cc in w)))
+  one_why Many (Line k) x y = let e = one_form ls (Err formMany) (Err (formLine k)) x y in absurd (omega (arith, (let w : ◌≡◌ {A = ℕ} 0 1 = cc in w)))
   one_why Many Many x y = refl
   one_why Many (positionRefused why) x y = absurd y
   one_why (positionRefused why) w x y = absurd x

@@ -14,7 +14,6 @@ use Rattle.laws.specs.StrictLists.{In}
 use Rattle.refusal.specs.declared.Refusal.{Refusal}
 use Rattle.board.specs.Gate.{pos_on}
 use Rattle.strict.specs.Demand.{Past, IsStrictList}
-use Rattle.solution_lines.specs.declared.Formed.TheVariants.{All}
 use Rattle.solution_lines.specs.Lines.{lines_of, line_at, Says, Among, NoneOf, TellsForm}
 use Rattle.solution_lines.specs.inner.Reading.{leniently}
 use Rattle.solution.specs.declared.Why.{Why}
@@ -41,7 +40,7 @@ module _ (e : Edition) (t s : List ℕ) (a : Result Checked Why) (x : Checks e t
   )
 
   -- a line that is not wrong says a retraction that has a past, and repeats none before it
-  module _ (f : TellsForm (lines_of s) All) (i : ℕ) (l : i < length (lines_of s)) where
+  module _ (f : TellsForm (lines_of s) (Ok tt)) (i : ℕ) (l : i < length (lines_of s)) where
     line_says : Says (leniently (line_at (lines_of s) i)) (line_at (lines_of s) i)
     line_says = says_something (line_at (lines_of s) i) (f.1 i l)
 
@@ -69,14 +68,14 @@ module _ (e : Edition) (t s : List ℕ) (a : Result Checked Why) (x : Checks e t
   -- "the lines are exactly the strict list": of a list l that is the strict one, complete exactly when all lines are in form and at most 4,096, none repeats an
   -- earlier one, and they say what l has, and nothing else
   pub complete_list : (l : List ChessRetraction) → IsStrictList x.read.board l → (a ≡ Ok Complete)
-      ↔ (TellsForm (lines_of s) All × NoneOf (length (lines_of s)) (λ i. Among (lines_of s) i (line_at (lines_of s) i))
+      ↔ (TellsForm (lines_of s) (Ok tt) × NoneOf (length (lines_of s)) (λ i. Among (lines_of s) i (line_at (lines_of s) i))
       × ((r : ChessRetraction) → InRange r → IsSaid (lines_of s) r ↔ In r l))
   complete_list l m = (to, back)
     where
       in_range : (r : ChessRetraction) → Past x.read.board r → InRange r
       in_range r p = strict_in (pos_on x.read.board) r ((strict_past x.read.board (read_accepted e t x.read x.reads h).0 r).1 p)
 
-      to : a ≡ Ok Complete → TellsForm (lines_of s) All × NoneOf (length (lines_of s)) (λ i. Among (lines_of s) i (line_at (lines_of s) i))
+      to : a ≡ Ok Complete → TellsForm (lines_of s) (Ok tt) × NoneOf (length (lines_of s)) (λ i. Among (lines_of s) i (line_at (lines_of s) i))
           × ((r : ChessRetraction) → InRange r → IsSaid (lines_of s) r ↔ In r l)
       to z =
           let w = (exactly (Ok Complete)).0 z in
@@ -88,7 +87,7 @@ module _ (e : Edition) (t s : List ℕ) (a : Result Checked Why) (x : Checks e t
               let g = ((not_wrong w.0 u.0 u.1).0 (w.1 u.0 u.1)).0 in
               subst (Past x.read.board) (says_one g.1 (k, sym u.2)) g.2
 
-      back : TellsForm (lines_of s) All × NoneOf (length (lines_of s)) (λ i. Among (lines_of s) i (line_at (lines_of s) i))
+      back : TellsForm (lines_of s) (Ok tt) × NoneOf (length (lines_of s)) (λ i. Among (lines_of s) i (line_at (lines_of s) i))
           × ((r : ChessRetraction) → InRange r → IsSaid (lines_of s) r ↔ In r l) → a ≡ Ok Complete
       back y = (exactly (Ok Complete)).1 (
         y.0,

@@ -15,7 +15,6 @@ use Rattle.laws.specs.StrictLists.{place}
 use Rattle.rows.specs.inner.Marked.{marked, Marks}
 use Rattle.strict_test.specs.inner.Strictly.{strict_for}
 use Rattle.strict_search.specs.inner.Searching.{test_of}
-use Rattle.solution_lines.specs.declared.Formed.TheVariants.{All}
 use Rattle.solution_lines.specs.Lines.{lines_of, line_at, Says, Among, NoneOf, TellsForm}
 use Rattle.solution_lines.specs.inner.Reading.{leniently}
 use Rattle.solution.specs.declared.Checked.{Checked}
@@ -38,7 +37,7 @@ pub record Goes (p : Pos) (s w : List ℕ) (at n : ℕ) : Type 0 where
   pub seen : Seen w (lines_of s) n
 
 -- a turn of the loop: the line says r, and t tells whether it is strict and new
-module _ (p : Pos) (s w : List ℕ) (at n : ℕ) (g : Goes p s w at n) (f : TellsForm (lines_of s) All) (h : at < length s) (stop : ℕ) (e : stop ≡ stop_from s at (length s - at)) (r : ChessRetraction)
+module _ (p : Pos) (s w : List ℕ) (at n : ℕ) (g : Goes p s w at n) (f : TellsForm (lines_of s) (Ok tt)) (h : at < length s) (stop : ℕ) (e : stop ≡ stop_from s at (length s - at)) (r : ChessRetraction)
     (q : (r ≡ leniently (take (stop - at) (drop at s))) × InRange r) (i : ℕ) (ip : i ≡ place r) (t : Bool) (tq : t ≡ (strict_for p r and not (marked w i))) where
   line : line_at (lines_of s) n ≡ take (stop - at) (drop at s)
   line = line_is (IsWrong (StrictAt p) (lines_of s)) s at n g.through h stop e
@@ -78,7 +77,7 @@ module _ (p : Pos) (s w : List ℕ) (at n : ℕ) (g : Goes p s w at n) (f : Tell
   }
 
 -- the lines are over, and what is missing is known by the marks
-module _ (p : Pos) (s w : List ℕ) (at n : ℕ) (g : Goes p s w at n) (f : TellsForm (lines_of s) All) (h : at ≤ length s) (k : length s ≤ at) where
+module _ (p : Pos) (s w : List ℕ) (at n : ℕ) (g : Goes p s w at n) (f : TellsForm (lines_of s) (Ok tt)) (h : at ≤ length s) (k : length s ≤ at) where
   none_wrong : NoneOf (length (lines_of s)) (IsWrong (StrictAt p) (lines_of s))
   none_wrong = none_walked (IsWrong (StrictAt p) (lines_of s)) s at n g.through h k
 

@@ -9,7 +9,8 @@ use Rattle.board.specs.declared.Boarded.{Boarded}
 use Rattle.text.specs.Entries.{Reads}
 use Rattle.strict.specs.Demand.{Past}
 use Rattle.rows.specs.Rows.{fields_by}
-use Rattle.solution_lines.specs.declared.Formed.TheVariants.{All, Line as formLine, Many as formMany}
+use Rattle.solution_lines.specs.declared.Unformed.{Unformed}
+use Rattle.solution_lines.specs.declared.Unformed.TheVariants.{Line as formLine, Many as formMany}
 use Rattle.solution_lines.specs.Lines.{lines_of, Says, line_at, Among, NoneOf, FirstOf, TellsForm}
 use Rattle.solution.specs.declared.Why.{Why}
 use Rattle.solution.specs.declared.Why.TheVariants.{Position, Line, Many}
@@ -34,11 +35,11 @@ pub record FirstMissing (S : ChessRetraction → Type 0) (ls : List (List ℕ)) 
 -- "Complete means that the lines are exactly the strict list": no line is wrong, and all of the list is said; or "the first wrong line"; or, of "a set that
 -- has no wrong line but lacks some", the first missing. "Any refusal comes before a verdict": all lines are in form and not too many
 abbrev pub Tells : (ChessRetraction → Type 0) → List (List ℕ) → Result Checked Why → Type 0
-Tells S ls (Ok Complete) = TellsForm ls All × NoneOf (length ls) (IsWrong S ls) × ((r : ChessRetraction) → S r → IsSaid ls r)
-Tells S ls (Ok (Wrong k)) = TellsForm ls All × FirstOf (length ls) (IsWrong S ls) k
-Tells S ls (Ok (Incomplete q)) = TellsForm ls All × NoneOf (length ls) (IsWrong S ls) × FirstMissing S ls q
-Tells S ls (Err (Line k)) = TellsForm ls (formLine k)
-Tells S ls (Err Many) = TellsForm ls formMany
+Tells S ls (Ok Complete) = TellsForm ls (Ok tt) × NoneOf (length ls) (IsWrong S ls) × ((r : ChessRetraction) → S r → IsSaid ls r)
+Tells S ls (Ok (Wrong k)) = TellsForm ls (Ok tt) × FirstOf (length ls) (IsWrong S ls) k
+Tells S ls (Ok (Incomplete q)) = TellsForm ls (Ok tt) × NoneOf (length ls) (IsWrong S ls) × FirstMissing S ls q
+Tells S ls (Err (Line k)) = TellsForm ls (Err (formLine k))
+Tells S ls (Err Many) = TellsForm ls (Err formMany)
 Tells S ls (Err (Position why)) = ⊥
 
 -- "14 and 1 to 6 for the position" come first
@@ -51,6 +52,11 @@ pub record Checks (e : Edition) (t s : List ℕ) (a : Result Checked Why) : Type
   pub read : Boarded
   pub reads : Reads e t read
   pub told : TellsOf read.verdict read.board (lines_of s) a
+
+-- what is not in form is not judged
+abbrev pub why_of : Unformed → Why
+why_of (formLine k) = Line k
+why_of formMany = Many
 
 -- "14 and 1 to 6 .., 23 LINE .., 24 MANY"
 abbrev pub why_number : Why → ℕ

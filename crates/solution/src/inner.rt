@@ -6,7 +6,6 @@ ghost use Rattle.laws.specs.Boards.{pos_at};
 ghost use Rattle.rows.specs.inner.Marked.{marked};
 ghost use Rattle.strict_test.specs.inner.Strictly.{Today, strict_for};
 ghost use Rattle.strict_search.specs.inner.Searching.{test_of};
-ghost use Rattle.solution_lines.specs.declared.Formed.TheVariants.{All};
 ghost use Rattle.solution_lines.specs.Lines.{lines_of, TellsForm};
 ghost use Rattle.solution.specs.Verdicts.{Tells};
 ghost use Rattle.solution.specs.inner.Marked.{Lacks};
@@ -14,7 +13,6 @@ ghost use Rattle.solution.specs.inner.Judged.{StrictAt};
 
 use super::{Checked, Why};
 use laws::{ChessRetraction, Position};
-use solution_lines::Formed;
 
 mod marks; // marks.rt: the places of the retractions that were said, as bits
 
@@ -50,7 +48,7 @@ fn missing(t: &[u64; 4096], p: Position, seen: &[u64; 768]) -> Checked
 
 // The first wrong line, or what is missing. All lines are in form.
 fn verdict(t: &[u64; 4096], p: Position, lines: &[u8]) -> Checked
-    requires { (IsBetween t.now × Today p) × TellsForm (lines_of lines.now) All }
+    requires { (IsBetween t.now × Today p) × TellsForm (lines_of lines.now) (Ok tt) }
     ensures { Tells (StrictAt (pos_at p)) (lines_of lines.now) (Ok result) }
 {
     let mut seen = [0u64; 768];
@@ -76,9 +74,6 @@ pub fn judged(t: &[u64; 4096], p: Position, lines: &[u8]) -> Result<Checked, Why
     requires { IsBetween t.now × Today p }
     ensures { Tells (StrictAt (pos_at p)) (lines_of lines.now) result }
 {
-    match solution_lines::form_of(lines) {
-        Formed::Line(n) => Err(Why::Line(n)),
-        Formed::Many => Err(Why::Many),
-        Formed::All => Ok(verdict(t, p, lines)),
-    }
+    solution_lines::form_of(lines)?;
+    Ok(verdict(t, p, lines))
 }

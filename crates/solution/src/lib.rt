@@ -2,10 +2,11 @@
 #![tactic(auto)]
 
 ghost use Rattle.std.specs.Prelude.{◌≡◌};
-ghost use Rattle.solution.specs.Verdicts.{why_number, Checks};
+ghost use Rattle.solution.specs.Verdicts.{why_of, why_number, Checks};
 
 use laws::{ChessRetraction, Edition};
 use refusal::Refusal;
+use solution_lines::Unformed;
 
 pub mod inner; // inner.rt: the verdict on the lines of an accepted position; inner/marks.rt
 
@@ -15,6 +16,17 @@ pub enum Why {
     Position(Refusal),
     Line(usize),
     Many,
+}
+
+impl From<Unformed> for Why {
+    ghost from_gives = { λ u w. w ≡ why_of u };
+
+    fn from(u: Unformed) -> Why {
+        match u {
+            Unformed::Line(n) => Why::Line(n),
+            Unformed::Many => Why::Many,
+        }
+    }
 }
 
 // The lines are the strict list; the number of the first wrong line; the first strict retraction that no line says.

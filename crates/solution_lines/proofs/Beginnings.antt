@@ -8,10 +8,11 @@ use native.Mathlib.Omega.{arith}
 use lib.Dec.{eqb}
 use lib.ListN.{length, drop}
 use Rattle.laws.specs.declared.ChessRetraction.{ChessRetraction}
-use Rattle.solution_lines.specs.declared.Formed.{Formed}
-use Rattle.solution_lines.specs.declared.Formed.TheVariants.{All, Line, Many}
+use Rattle.solution_lines.specs.declared.Unformed.{Unformed}
+use Rattle.solution_lines.specs.declared.Unformed.TheVariants.{Line, Many}
 use Rattle.solution_lines.specs.Lines.{onto, lines_of, line_at, Says, NoneOf, OutOfForm, TellsForm}
 use Rattle.squares.proofs.Testing.{order}
+use Rattle.std.specs.Prelude.{Result, Ok, Err, ⊤}
 use Rattle.solution_lines.proofs.Inverse.{says_something}
 use Rattle.solution_lines.proofs.Cutting.{drop_over}
 
@@ -119,9 +120,9 @@ module _ (u v : List ℕ) (big : 36874 ≤ length u) where
       let w = eights i ls (omega arith) (λ j l. eight j (f j l)) in
       omega (arith, w, lines_size u, last_size i ls e, longer_at ls ms (begins u v) i e, says_eight h)
 
-  pub same_form : (a : Formed) → TellsForm ls a → TellsForm ms a × (a ≡ All → ⊥)
-  same_form All x = absurd (many 4096 (omega arith) x.0 x.1)
-  same_form Many x = (
+  pub same_form : (a : Result ⊤ Unformed) → TellsForm ls a → TellsForm ms a × (a ≡ Ok tt → ⊥)
+  same_form (Ok _) x = absurd (many 4096 (omega arith) x.0 x.1)
+  same_form (Err Many) x = (
     (omega (arith, x.0, as_many ls ms (begins u v)), λ i l f. x.1 i l (out_back i (omega (arith, more)) f)),
     λ e. omega (arith, (let w : ◌≡◌ {A = ℕ} 0 1 = cc in w)),
   )
@@ -132,7 +133,7 @@ module _ (u v : List ℕ) (big : 36874 ≤ length u) where
           go : (4097 < length ls) ⊎ (length ls ≤ 4097) → 4097 < length ls
           go (inl l) = l
           go (inr l) = absurd (many 4097 (omega arith) l (λ i k. x.1 i (omega arith)))
-  same_form (Line k) x = (
+  same_form (Err (Line k)) x = (
     (
       record {
         before = i;

@@ -1,10 +1,10 @@
 -- The lines of a solution, document 02's request 10: what a line says, and which line is refused.
-use Rattle.std.specs.Prelude.{◌≡◌, cond, List, [], ◌∷◌, ℕ, ◌+◌, ◌≤◌, ◌<◌, eqb, length, get_or}
+use Rattle.std.specs.Prelude.{◌≡◌, cond, List, [], ◌∷◌, ℕ, ◌+◌, ◌≤◌, ◌<◌, eqb, length, get_or, Result, Ok, Err, ⊤}
 use Rattle.laws.specs.declared.ChessRetraction.{ChessRetraction}
 use Rattle.laws.specs.Retractions.{InRange}
 use Rattle.rows.specs.Rows.{fields_by}
-use Rattle.solution_lines.specs.declared.Formed.{Formed}
-use Rattle.solution_lines.specs.declared.Formed.TheVariants.{All, Line, Many}
+use Rattle.solution_lines.specs.declared.Unformed.{Unformed}
+use Rattle.solution_lines.specs.declared.Unformed.TheVariants.{Line, Many}
 
 -- a byte in front of the first line
 abbrev pub onto : ℕ → List (List ℕ) → List (List ℕ)
@@ -45,7 +45,7 @@ OutOfForm ls i = (r : ChessRetraction) → Says r (line_at ls i) → ⊥
 
 -- "At most 4,096 lines. .. 23 LINE for a line out of form, with its number, 24 MANY for a 4,097th line; 23 and 24 by whichever line comes first"; the
 -- 4,097th line is 23 where it is out of form too
-abbrev pub TellsForm : List (List ℕ) → Formed → Type 0
-TellsForm ls All = (length ls ≤ 4096) × NoneOf (length ls) (OutOfForm ls)
-TellsForm ls (Line k) = FirstOf (length ls) (OutOfForm ls) k × (k ≤ 4097)
-TellsForm ls Many = (4097 ≤ length ls) × NoneOf 4097 (OutOfForm ls)
+abbrev pub TellsForm : List (List ℕ) → Result ⊤ Unformed → Type 0
+TellsForm ls (Ok _) = (length ls ≤ 4096) × NoneOf (length ls) (OutOfForm ls)
+TellsForm ls (Err (Line k)) = FirstOf (length ls) (OutOfForm ls) k × (k ≤ 4097)
+TellsForm ls (Err Many) = (4097 ≤ length ls) × NoneOf 4097 (OutOfForm ls)

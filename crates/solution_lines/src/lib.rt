@@ -5,10 +5,9 @@ ghost use Rattle.solution_lines.specs.Lines.{lines_of, TellsForm};
 
 pub mod inner; // inner.rt: the retraction that a line says
 
-// All lines are in form and not too many; or the number of the first line out of form; or a line too many.
+// Why the lines are not in form: the number of the first line out of form; or a line too many.
 #[derive(Drop)]
-pub enum Formed {
-    All,
+pub enum Unformed {
     Line(usize),
     Many,
 }
@@ -16,20 +15,20 @@ pub enum Formed {
 const MOST_LINES: usize = 4096;
 
 // The first line that is out of form or one too many, whichever comes first: 23, 24.
-pub fn form_of(lines: &[u8]) -> Formed
+pub fn form_of(lines: &[u8]) -> Result<(), Unformed>
     ensures { TellsForm (lines_of lines.now) result }
 {
     let mut at = 0;
     // A turn for each line that may stand, and one for a line too many.
     for n in 0..MOST_LINES + 1 {
         if at == lines.len() {
-            return Formed::All;
+            return Ok(());
         }
         let stop = chunks::inner::find(lines, at, lines.len());
         if !inner::is_formed(&lines[at..stop]) {
-            return Formed::Line(n + 1);
+            return Err(Unformed::Line(n + 1));
         }
         at = chunks::inner::past(stop, lines.len());
     }
-    Formed::Many
+    Err(Unformed::Many)
 }

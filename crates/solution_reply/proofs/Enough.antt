@@ -2,7 +2,7 @@
 use mathlib.Core.Path.{◌≡◌, refl, sym, ap, ap₂, ◌∙◌, subst}
 use mathlib.Core.Logic.{◌⊎◌, inl, inr}
 use mathlib.Core.List.{List, ◌++◌}
-use Prim.Native.Nat.{ℕ, suc, ◌+◌, ◌-◌, ◌≤◌, ◌<◌}
+use Prim.Native.Nat.{ℕ, suc, ◌≤◌, ◌<◌}
 use native.Mathlib.Omega.{arith}
 use lib.ListN.{length, get_or, take, drop, length-drop, take-append-drop}
 use lib.Seq.{length-take-le, take_all, take-take, drop-append-le, get_or-take}
@@ -11,7 +11,7 @@ use Rattle.laws.specs.declared.Edition.TheVariants.{A}
 use Rattle.board.specs.declared.Boarded.{Boarded}
 use Rattle.text.specs.Entries.{Reads, said, unsaid}
 use Rattle.strict.specs.Demand.{Past}
-use Rattle.solution_lines.specs.declared.Formed.TheVariants.{All, Line as formLine, Many as formMany}
+use Rattle.solution_lines.specs.declared.Unformed.TheVariants.{Line as formLine, Many as formMany}
 use Rattle.solution_lines.specs.Lines.{lines_of}
 use Rattle.solution.specs.declared.Why.{Why}
 use Rattle.solution.specs.declared.Why.TheVariants.{Position, Line, Many}
@@ -30,11 +30,11 @@ use Rattle.std.specs.Prelude.{Result, Ok, Err}
 
 -- where the lines' first bytes tell the form, they tell the answer
 tells_enough : (S : ChessRetraction → Type 0) (u v : List ℕ) → 36874 ≤ length u → (a : Result Checked Why) → Tells S (lines_of u) a → Tells S (lines_of (u ++ v)) a
-tells_enough S u v h (Ok Complete) x = absurd ((same_form u v h All x.0).1 refl)
-tells_enough S u v h (Ok (Wrong k)) x = absurd ((same_form u v h All x.0).1 refl)
-tells_enough S u v h (Ok (Incomplete q)) x = absurd ((same_form u v h All x.0).1 refl)
-tells_enough S u v h (Err (Line k)) x = (same_form u v h (formLine k) x).0
-tells_enough S u v h (Err Many) x = (same_form u v h formMany x).0
+tells_enough S u v h (Ok Complete) x = absurd ((same_form u v h (Ok tt) x.0).1 refl)
+tells_enough S u v h (Ok (Wrong k)) x = absurd ((same_form u v h (Ok tt) x.0).1 refl)
+tells_enough S u v h (Ok (Incomplete q)) x = absurd ((same_form u v h (Ok tt) x.0).1 refl)
+tells_enough S u v h (Err (Line k)) x = (same_form u v h (Err (formLine k)) x).0
+tells_enough S u v h (Err Many) x = (same_form u v h (Err formMany) x).0
 tells_enough S u v h (Err (Position why)) x = absurd x
 
 -- a text that is accepted is short
