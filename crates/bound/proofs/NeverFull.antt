@@ -13,14 +13,14 @@ use Rattle.geometry.specs.declared.Color.{Color}
 use Rattle.geometry.specs.Colors.{opp}
 use Rattle.laws.specs.Retractions.{packed}
 use Rattle.laws.specs.Boards.{Shaped}
-use Rattle.refusal.specs.Refusals.{verdict_number, nothing_refused}
+use Rattle.refusal.specs.Refusals.{nothing_refused}
 use Rattle.refusal.specs.Said.{first_failing, Said, number_said, told, fitting, Writes}
 use Rattle.board.specs.declared.RetractableBoard.{RetractableBoard}
 use Rattle.board.specs.Gate.{position_on, to_laws, board_tests}
 use Rattle.board.specs.inner.Gates.{Sound}
 use Rattle.retraction_list.specs.declared.SourceAndTargets.{SourceAndTargets}
-use Rattle.retraction_gen.specs.declared.Made.{Made}
-use Rattle.retraction_gen.specs.Making.{list_on, full_test, list_tests, cursor_on, no_cursor, Makes}
+use Rattle.retraction_gen.specs.declared.RetractionGen.{RetractionGen}
+use Rattle.retraction_gen.specs.Making.{list_on, full_test, list_tests, cursor_on, Makes}
 use Rattle.retraction_gen.specs.Sequence.{sequence_on}
 use Rattle.slots.specs.declared.Unlisted.{Unlisted}
 use Rattle.slots.specs.Slots.{listed_says}
@@ -30,11 +30,12 @@ use Rattle.laws.proofs.Mans.{opp_opp}
 use Rattle.laws.proofs.Cleaning.{shaped_clean}
 use Rattle.accept.proofs.Numbered.{judged_passes}
 use Rattle.refusal.proofs.Saying.{behind_by}
-use Rattle.refusal.proofs.Tested.{beside_none, pass_on}
+use Rattle.refusal.proofs.Tested.{pass_on}
 use Rattle.board.proofs.Passing.{gate_judged}
 use Rattle.board.proofs.Numbers.{passed_gate}
 use Rattle.bound.proofs.Sixteen.{list_fits, pawnless_fits}
-use Rattle.std.specs.Prelude.{Result}
+use Rattle.std.specs.Prelude.{Result, Ok}
+use Rattle.retraction_gen.proofs.Gated.{made_is}
 use Rattle.refusal.specs.declared.Refusal.{Refusal}
 
 -- 8 passes where the list fits
@@ -81,8 +82,8 @@ module _ (b : RetractableBoard) (shape : Shaped (to_laws b)) (accepted : first_f
     passes = sym (pass_on (board_tests b) (full_test (list_on b)) accepted) ∙ fits_passes (list_on b) fits
 
     -- the cursor is made
-    pub makes : (r : Made) → Makes (list_tests b) (cursor_on b) r → (verdict_number r.verdict ≡ 0) × (r.cursor ≡ cursor_on b)
-    makes r k = (k.number ∙ passes, k.cursor ∙ sym (beside_none (list_tests b) (cursor_on b) no_cursor passes))
+    pub makes : (r : Result RetractionGen Refusal) → Makes (list_tests b) (cursor_on b) r → r ≡ Ok (cursor_on b)
+    makes r k = made_is r passes k
 
     -- the list is written, or 13 is given
     pub lists : (o after : List ℕ) (r : Result ℕ Unlisted) → Writes (list_tests b) (map packed (sequence_on b)) o (listed_says r) after

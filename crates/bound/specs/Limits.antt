@@ -1,16 +1,16 @@
 -- For how many men of the retractor 47 entries are enough, and boards that show where the limit lies.
-use Rattle.std.specs.Prelude.{◌≡◌, ℕ, ◌≤◌, length}
+use Rattle.std.specs.Prelude.{◌≡◌, ℕ, ◌≤◌, length, Result}
 use Prim.Native.String.{String}
 use Rattle.squares.specs.Squares.{size}
 use Rattle.geometry.specs.declared.Color.{Color}
 use Rattle.geometry.specs.Colors.{opp}
 use Rattle.laws.specs.Boards.{color_set, Shaped}
-use Rattle.refusal.specs.Refusals.{verdict_number}
+use Rattle.refusal.specs.declared.Refusal.{Refusal}
 use Rattle.refusal.specs.Said.{first_failing}
 use Rattle.board.specs.declared.RetractableBoard.{RetractableBoard}
 use Rattle.board.specs.Gate.{to_laws, board_tests}
-use Rattle.retraction_gen.specs.declared.Made.{Made}
-use Rattle.retraction_gen.specs.Making.{list_on, list_tests, cursor_on, Makes}
+use Rattle.retraction_gen.specs.declared.RetractionGen.{RetractionGen}
+use Rattle.retraction_gen.specs.Making.{list_on, list_tests, cursor_on, refused_number, Makes}
 use Rattle.daggers.specs.Table.{OnText}
 
 -- how many men a colour has
@@ -31,7 +31,7 @@ Needs t n m = OnText t (λ b. (men b (opp b.turn) ≡ n) × (length (list_on b) 
 
 -- a text that is read as an accepted board, for which making the cursor gives 8
 abbrev pub Full : String → Type 0
-Full t = OnText t (λ b. (r : Made) → Makes (list_tests b) (cursor_on b) r → verdict_number r.verdict ≡ 8)
+Full t = OnText t (λ b. (r : Result RetractionGen Refusal) → Makes (list_tests b) (cursor_on b) r → refused_number r ≡ 8)
 
 -- by the men of the retractor; the last two are document 01's, the one FULL, the other "without the knight on h1"
 abbrev pub sixteen : String

@@ -2,9 +2,9 @@
 // that an entry which lets the board pass refuses them, where it can: 64 for a square, and slices without room.
 ghost use Rattle.puts.specs.inner.Growing.{Grows};
 
-use board::{Boarded, RetractableBoard};
+use board::RetractableBoard;
 use laws::{ChessRetraction, Color, EnPassantFlag};
-use refusal::{Refusal, Verdict};
+use refusal::Refusal;
 use retraction_gen::RetractionGen;
 use slots::Unlisted;
 use text::Unprinted;
@@ -27,9 +27,9 @@ pub fn answer(line: &[u8], out: &mut [u8; 65536]) -> usize
 fn put_asked(b: RetractableBoard, out: &mut [u8; 65536]) -> usize
     ensures { Grows 0 result }
 {
-    let h = puts::inner::number(out, 0, of_board(b.judge()));
-    let i = puts::inner::next_number(out, h, of_piece(b));
-    puts::inner::next_number(out, i, of_attacked(b))
+    let h = puts::inner::number(out, 0, of(b.judge().verdict));
+    let i = puts::inner::next_number(out, h, of(b.piece_on(64).answer));
+    puts::inner::next_number(out, i, of(b.is_attacked(64, Color::White).answer))
 }
 
 // set_en_passant, set_uncertain_ep, make_retraction_new, replay
@@ -45,11 +45,11 @@ fn put_changed(b: RetractableBoard, out: &mut [u8; 65536], len: usize) -> usize
     let h = puts::inner::next_number(
         out,
         len,
-        of_board(b.set_en_passant(EnPassantFlag::Some(64))),
+        of(b.set_en_passant(EnPassantFlag::Some(64)).verdict),
     );
-    let i = puts::inner::next_number(out, h, of_board(b.set_uncertain_ep()));
-    let j = puts::inner::next_number(out, i, of_board(b.make_retraction_new(r)));
-    puts::inner::next_number(out, j, of_board(b.replay(r, 0)))
+    let i = puts::inner::next_number(out, h, of(b.set_uncertain_ep().verdict));
+    let j = puts::inner::next_number(out, i, of(b.make_retraction_new(r).verdict));
+    puts::inner::next_number(out, j, of(b.replay(r, 0).verdict))
 }
 
 // print, new_legal, uncaptured_candidates, retractions_into, is_limited_in_retractions
@@ -57,10 +57,10 @@ fn put_listings(b: RetractableBoard, out: &mut [u8; 65536], len: usize) -> usize
     ensures { Grows len result }
 {
     let h = puts::inner::next_number(out, len, of_print(b));
-    let i = puts::inner::next_number(out, h, of_cursor(b));
-    let j = puts::inner::next_number(out, i, of_masks(b));
+    let i = puts::inner::next_number(out, h, of(RetractionGen::new_legal(b)));
+    let j = puts::inner::next_number(out, i, of(retraction_gen::uncaptured_candidates(b)));
     let k = puts::inner::next_number(out, j, of_ported(b));
-    puts::inner::next_number(out, k, of_limited(b))
+    puts::inner::next_number(out, k, of(limited::is_limited_in_retractions(b)))
 }
 
 // strict_into, strict_count, last_move
@@ -68,66 +68,24 @@ fn put_strict(b: RetractableBoard, out: &mut [u8; 65536], len: usize) -> usize
     ensures { Grows len result }
 {
     let h = puts::inner::next_number(out, len, of_strict(b));
-    let i = puts::inner::next_number(out, h, of_count(b));
-    puts::inner::next_number(out, i, of_last_move(b))
+    let i = puts::inner::next_number(out, h, of(strict::strict_count(b)));
+    puts::inner::next_number(out, i, of(strict::last_move(b)))
 }
 
-fn of_refusal(r: Refusal) -> u64 {
-    refusal::number(r) as u64
-}
-
-fn of_verdict(v: Verdict) -> u64 {
-    match v {
-        Ok(()) => 0,
-        Err(r) => of_refusal(r),
-    }
-}
-
-fn of_board(b: Boarded) -> u64 {
-    let v = b.verdict;
-    of_verdict(v)
-}
-
-fn of_piece(b: RetractableBoard) -> u64 {
-    let told = b.piece_on(64);
-    let p = told.answer;
-    match p {
-        Ok(None) => 0,
-        Ok(Some(_)) => 0,
-        Err(r) => of_refusal(r),
-    }
-}
-
-fn of_attacked(b: RetractableBoard) -> u64 {
-    let told = b.is_attacked(64, Color::White);
-    let a = told.answer;
-    match a {
-        Ok(true) => 0,
-        Ok(false) => 0,
-        Err(r) => of_refusal(r),
+// The number of an answer's refusal.
+fn of<T: Drop>(answer: Result<T, Refusal>) -> u64 {
+    match answer {
+        Ok(_) => 0,
+        Err(r) => refusal::number(r) as u64,
     }
 }
 
 fn of_print(b: RetractableBoard) -> u64 {
     let mut bytes = [0u8; 1];
-    let p = text::print(b, &mut bytes[..0]);
-    match p {
-        Ok(_) => 0,
-        Err(Unprinted::Room(_)) => of_refusal(Refusal::Room),
-        Err(Unprinted::Refused(r)) => of_refusal(r),
-    }
-}
-
-fn of_cursor(b: RetractableBoard) -> u64 {
-    let made = RetractionGen::new_legal(b);
-    let v = made.verdict;
-    of_verdict(v)
-}
-
-fn of_masks(b: RetractableBoard) -> u64 {
-    let masks = retraction_gen::uncaptured_candidates(b);
-    let v = masks.verdict;
-    of_verdict(v)
+    of(text::print(b, &mut bytes[..0]).map_err(|why| match why {
+        Unprinted::Room(_) => Refusal::Room,
+        Unprinted::Refused(r) => r,
+    }))
 }
 
 fn of_ported(b: RetractableBoard) -> u64 {
@@ -140,36 +98,9 @@ fn of_strict(b: RetractableBoard) -> u64 {
     of_listed(strict::strict_into(b, &mut slots[..0]))
 }
 
-fn of_listed(l: Result<usize, Unlisted>) -> u64 {
-    match l {
-        Ok(_) => 0,
-        Err(Unlisted::Room(_)) => of_refusal(Refusal::Room),
-        Err(Unlisted::Refused(r)) => of_refusal(r),
-    }
-}
-
-fn of_limited(b: RetractableBoard) -> u64 {
-    let l = limited::is_limited_in_retractions(b);
-    match l {
-        Ok(true) => 0,
-        Ok(false) => 0,
-        Err(r) => of_refusal(r),
-    }
-}
-
-fn of_count(b: RetractableBoard) -> u64 {
-    let c = strict::strict_count(b);
-    match c {
-        Ok(_) => 0,
-        Err(r) => of_refusal(r),
-    }
-}
-
-fn of_last_move(b: RetractableBoard) -> u64 {
-    let l = strict::last_move(b);
-    match l {
-        Ok(true) => 0,
-        Ok(false) => 0,
-        Err(r) => of_refusal(r),
-    }
+fn of_listed(answer: Result<usize, Unlisted>) -> u64 {
+    of(answer.map_err(|why| match why {
+        Unlisted::Room(_) => Refusal::Room,
+        Unlisted::Refused(r) => r,
+    }))
 }

@@ -9,7 +9,6 @@ use lib.Dec.{leb, ltb, lit<}
 use lib.ListN.{length, get_or, set, take, replicate}
 use borrow.Author.Tests.{leb-true, le-leb, ltb-false, ltb-true, leb-false}
 use Rattle.squares.specs.Tests.{◌and◌}
-use Rattle.refusal.specs.Refusals.{verdict_number, nothing_refused}
 use Rattle.refusal.specs.Said.{first_failing}
 use Rattle.board.specs.declared.RetractableBoard.{RetractableBoard}
 use Rattle.laws.specs.declared.ChessRetraction.{ChessRetraction}
@@ -17,10 +16,9 @@ use Rattle.laws.specs.Retractions.{InRange}
 use Rattle.retraction_list.specs.declared.SourceAndTargets.{SourceAndTargets}
 use Rattle.retraction_list.specs.Entries.{no_entry, holding, sound}
 use Rattle.retraction_gen.specs.declared.RetractionGen.{RetractionGen}
-use Rattle.retraction_gen.specs.declared.Made.{Made}
 use Rattle.retraction_gen.specs.declared.Turn.{Turn}
 use Rattle.retraction_gen.specs.declared.Turn.TheVariants.{Again, Found, Over}
-use Rattle.retraction_gen.specs.Making.{list_on, masks_on, start_of, list_tests, cursor_on, no_cursor, Makes}
+use Rattle.retraction_gen.specs.Making.{list_on, masks_on, start_of, list_tests, cursor_on, Makes}
 use Rattle.retraction_gen.specs.Cursors.{with_index, with_uncaptured, turned, retraction_said, end_said, Answered, back, entry_at, lessened, spent, is_un_en_passant, barred, un_en_passant_to, uncaptured_to, turn_in, on_entry, turn_of, fuel, step_of, well_formed, next_of}
 use Rattle.squares.specs.Members.{lowest_of}
 use Rattle.retraction_gen.specs.Sequence.{sequence_of, sequence_on, Yields}
@@ -28,7 +26,7 @@ use Rattle.retraction_gen.specs.inner.Rest.{rest_in, window_of, rest_of}
 use Rattle.retraction_gen.proofs.Going.{on_len, again_less, turn_less, step_again, step_found, step_over}
 use Rattle.squares.proofs.Testing.{both, left, right}
 use Rattle.retraction_gen.proofs.Remaining.{found, turn_gives, rest_sequence}
-use Rattle.refusal.proofs.Tested.{beside_none}
+use Rattle.std.specs.Prelude.{Ok}
 use Rattle.retraction_gen.proofs.Gated.{list_passed}
 use Rattle.retraction_gen.proofs.Sources.{list_sound}
 
@@ -140,22 +138,22 @@ start_rest es ms =
     ∙ ap (rest_in ms 0) (window_front es (replicate (47 - length es) no_entry)) ∙ rest_sequence ms es
 
 -- whatever `new_legal` answers: where nothing is refused, the cursor is the start of the board's list
-module _ (b : RetractableBoard) (m : Made) (k : Makes (list_tests b) (cursor_on b) m) (h : m.verdict ≡ nothing_refused) where
+module _ (b : RetractableBoard) (g : RetractionGen) (k : Makes (list_tests b) (cursor_on b) (Ok g)) where
   none_failed : first_failing (list_tests b) ≡ 0
-  none_failed = sym k.number ∙ ap verdict_number h
+  none_failed = sym k.number
 
-  pub made_start : m.cursor ≡ start_of (holding (list_on b)) (masks_on b)
+  pub made_start : g ≡ start_of (holding (list_on b)) (masks_on b)
   unfolding cursor_on
-  made_start = k.cursor ∙ sym (beside_none (list_tests b) (cursor_on b) no_cursor none_failed)
+  made_start = k.cursor
 
   pub made_fits : length (list_on b) ≤ 47
   made_fits = (list_passed b none_failed).1
 
   -- "a cursor that yields its first retraction and then pretends to be at the end" is shut out
-  pub whole_sequence : Yields m.cursor (sequence_on b)
+  pub whole_sequence : Yields g (sequence_on b)
   unfolding sequence_on
   whole_sequence =
-      subst (λ (g : RetractionGen). Yields g (sequence_of (masks_on b) (list_on b))) (sym made_start)
+      subst (λ (h : RetractionGen). Yields h (sequence_of (masks_on b) (list_on b))) (sym made_start)
       (subst (Yields (start_of (holding (list_on b)) (masks_on b))) (start_rest (list_on b) (masks_on b))
       (yields_rest (start_of (holding (list_on b)) (masks_on b)) (start_formed (list_on b) (masks_on b) made_fits (list_sound b))))
 

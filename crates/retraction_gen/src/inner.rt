@@ -4,11 +4,11 @@ ghost use Rattle.geometry.specs.Lines.{IsBetween};
 ghost use Rattle.retraction_list.specs.inner.Pushing.{answer_of};
 ghost use Rattle.refusal.specs.Refusals.{nothing_refused};
 ghost use Rattle.board.specs.Gate.{gate_of};
-ghost use Rattle.retraction_gen.specs.Making.{view_on, list_on, start_of, full_test, cursor_on, no_cursor, Makes};
+ghost use Rattle.retraction_gen.specs.Making.{view_on, list_on, start_of, full_test, cursor_on, Makes};
 ghost use Rattle.retraction_gen.specs.declared.Turn.TheVariants.{Again, Found};
 ghost use Rattle.retraction_gen.specs.Cursors.{turned, entry_at, spent, is_un_en_passant, against, barred, turn_in, on_entry, turn_of, well_formed};
 
-use super::{Made, RetractionGen, Turn, Turned};
+use super::{RetractionGen, Turn, Turned};
 use board::RetractableBoard;
 use laws::ChessRetraction;
 use refusal::Refusal;
@@ -41,17 +41,6 @@ pub fn started(list: RetractionList, masks: [u64; 6]) -> RetractionGen
     }
 }
 
-// A refusal beside the empty cursor.
-pub fn refused(why: Refusal) -> Made
-    ensures { (result.verdict ≡ Err why) × (result.cursor ≡ no_cursor) }
-{
-    let none = retraction_list::inner::overfull();
-    Made {
-        verdict: Err(why),
-        cursor: started(none, [0; 6]),
-    }
-}
-
 // The list of a board that its gate let pass, or FULL. `t` is the table of squares between, lent.
 pub fn entries(t: &[u64; 4096], b: RetractableBoard) -> RetractionList
     requires { IsBetween t.now × (gate_of b ≡ nothing_refused) }
@@ -62,19 +51,16 @@ pub fn entries(t: &[u64; 4096], b: RetractableBoard) -> RetractionList
 }
 
 // The cursor of a board that its gate let pass, or FULL.
-pub fn made_from(t: &[u64; 4096], b: RetractableBoard) -> Made
+pub fn made_from(t: &[u64; 4096], b: RetractableBoard) -> Result<RetractionGen, Refusal>
     requires { IsBetween t.now × (gate_of b ≡ nothing_refused) }
     ensures { Makes (full_test (list_on b)) (cursor_on b) result }
 {
     let list = entries(t, b);
     if list.full {
-        return refused(Refusal::Full);
+        return Err(Refusal::Full);
     }
     let masks = uncaptured::inner::candidates(board::inner::position_of(b));
-    Made {
-        verdict: Ok(()),
-        cursor: started(list, masks),
-    }
+    Ok(started(list, masks))
 }
 
 pub fn is_un_en_passant(k: UnCaptureKind) -> bool

@@ -7,7 +7,7 @@ ghost use Rattle.retraction_gen.specs.Cursors.{Steps};
 
 use board::RetractableBoard;
 use laws::ChessRetraction;
-use refusal::Verdict;
+use refusal::Refusal;
 use retraction_list::SourceAndTargets;
 
 pub mod inner; // inner.rt: making the cursor, and one turn of it
@@ -19,20 +19,6 @@ pub struct RetractionGen {
     pub len: usize,
     pub index: usize,
     pub uncaptured: u8,
-    pub masks: [u64; 6],
-}
-
-// A cursor, or a refusal beside the empty cursor.
-#[derive(Drop)]
-pub struct Made {
-    pub verdict: Verdict,
-    pub cursor: RetractionGen,
-}
-
-// The six masks, or a refusal beside empty ones.
-#[derive(Drop)]
-pub struct Masks {
-    pub verdict: Verdict,
     pub masks: [u64; 6],
 }
 
@@ -59,15 +45,12 @@ pub struct Turned {
 
 impl RetractionGen {
     // The cursor of a board: refusals 1 to 7, then 8.
-    pub fn new_legal(b: RetractableBoard) -> Made
+    pub fn new_legal(b: RetractableBoard) -> Result<RetractionGen, Refusal>
         ensures { Makes (list_tests b) (cursor_on b) result }
     {
         let t = tables::between_table();
-        let v = board::inner::gate(&t, b);
-        match v {
-            Err(why) => inner::refused(why),
-            Ok(()) => inner::made_from(&t, b),
-        }
+        board::inner::gate(&t, b)?;
+        inner::made_from(&t, b)
     }
 
     // The next retraction, or the end. A malformed cursor is at the end.
@@ -104,22 +87,10 @@ impl RetractionGen {
 }
 
 // The squares where each man may have been uncaptured: refusals 1 to 7.
-pub fn uncaptured_candidates(b: RetractableBoard) -> Masks
+pub fn uncaptured_candidates(b: RetractableBoard) -> Result<[u64; 6], Refusal>
     ensures { Masked (board_tests b) (masks_on b) result }
 {
     let t = tables::between_table();
-    let v = board::inner::gate(&t, b);
-    match v {
-        Err(why) => Masks {
-            verdict: Err(why),
-            masks: [0; 6],
-        },
-        Ok(()) => {
-            let masks = uncaptured::inner::candidates(board::inner::position_of(b));
-            Masks {
-                verdict: Ok(()),
-                masks,
-            }
-        }
-    }
+    board::inner::gate(&t, b)?;
+    Ok(uncaptured::inner::candidates(board::inner::position_of(b)))
 }

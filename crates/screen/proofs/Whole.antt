@@ -16,7 +16,6 @@ use Rattle.laws.specs.StrictLists.{In, here, there}
 use Rattle.board.specs.declared.RetractableBoard.{RetractableBoard}
 use Rattle.board.specs.Gate.{pos_on, gate_of}
 use Rattle.retraction_gen.specs.declared.RetractionGen.{RetractionGen}
-use Rattle.retraction_gen.specs.declared.Made.{Made}
 use Rattle.retraction_gen.specs.declared.Stepped.{Stepped}
 use Rattle.retraction_gen.specs.Making.{list_tests, cursor_on, Makes}
 use Rattle.retraction_gen.specs.Sequence.{sequence_on, Yields}
@@ -34,7 +33,7 @@ use Rattle.screen.specs.declared.Screen.{Screen}
 use Rattle.screen.specs.declared.Pressed.{Pressed}
 use Rattle.screen.specs.Screens.{end_text, press_text, screen_after, Shown, ShowsAll, shown_of}
 use Rattle.refusal.specs.Refusals.{nothing_refused}
-use Rattle.std.specs.Prelude.{None, Option, Some}
+use Rattle.std.specs.Prelude.{None, Option, Some, Ok}
 
 -- any two answers agree
 pub shown_one : {s : Screen} {slots o x y : List ℕ} {r q : Pressed} → Shown s slots r o x → Shown s slots q o y → (r ≡ q) × (x ≡ y)
@@ -103,7 +102,7 @@ shows_list s slots (t ∷ ts) (q ∷ l) y (r, o, out, p, e, k) =
     (subst (λ (x : Screen). ShowsAll x slots ts) m k))
 
 -- from `new_legal`, whatever it answers: n presses show the board's sequence, numbered from 1, and then the end
-pub whole_shown : (b : RetractableBoard) (m : Made) → Makes (list_tests b) (cursor_on b) m → m.verdict ≡ nothing_refused → (slots : List ℕ) (ts : List (List ℕ))
-    → ShowsAll (record { board = b; cursor = m.cursor; listed = 0; strict = 0 }) slots ts → ts ≡ shown_of b slots (length ts) 0 0 (sequence_on b)
-whole_shown b m made e slots ts k =
-    shows_list (record { board = b; cursor = m.cursor; listed = 0; strict = 0 }) slots ts (sequence_on b) (whole_sequence b m made e) k
+pub whole_shown : (b : RetractableBoard) (g : RetractionGen) → Makes (list_tests b) (cursor_on b) (Ok g) → (slots : List ℕ) (ts : List (List ℕ))
+    → ShowsAll (record { board = b; cursor = g; listed = 0; strict = 0 }) slots ts → ts ≡ shown_of b slots (length ts) 0 0 (sequence_on b)
+whole_shown b g made slots ts k =
+    shows_list (record { board = b; cursor = g; listed = 0; strict = 0 }) slots ts (sequence_on b) (whole_sequence b g made) k

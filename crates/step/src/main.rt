@@ -107,11 +107,9 @@ fn open(t: &[u64; 4096], text: &[u8], strict: &mut [u16; 8192]) -> Result<Opened
     let b = text::inner::read(t, text, Edition::A);
     b.verdict?;
     let board = b.board;
-    let m = RetractionGen::new_legal(board);
-    m.verdict?;
     let screen = Screen {
         board,
-        cursor: m.cursor,
+        cursor: RetractionGen::new_legal(board)?,
         listed: 0,
         strict: 0,
     };

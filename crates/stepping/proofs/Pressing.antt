@@ -5,7 +5,6 @@ use lib.ListN.{length}
 use Rattle.board.specs.declared.RetractableBoard.{RetractableBoard}
 use Rattle.laws.specs.declared.ChessRetraction.{ChessRetraction}
 use Rattle.retraction_gen.specs.declared.RetractionGen.{RetractionGen}
-use Rattle.retraction_gen.specs.declared.Made.{Made}
 use Rattle.retraction_gen.specs.Making.{list_tests, cursor_on, Makes}
 use Rattle.retraction_gen.specs.Cursors.{end_said, Answered, next_of}
 use Rattle.retraction_gen.specs.Sequence.{sequence_on, Yields}
@@ -13,8 +12,7 @@ use Rattle.retraction_gen.proofs.Stepping.{next_one}
 use Rattle.retraction_gen.proofs.Whole.{whole_sequence}
 use Rattle.stepping.specs.Presses.{Press, Presses, answers_of}
 use Rattle.stepping.proofs.Resting.{ended_rests}
-use Rattle.refusal.specs.Refusals.{nothing_refused}
-use Rattle.std.specs.Prelude.{Option, None, Some}
+use Rattle.std.specs.Prelude.{Option, None, Some, Ok}
 
 -- a record that a press leaves which yields the end is at the end
 pub still_ended : (g h : RetractionGen) → Yields g [] → h ≡ (next_of g).cursor → ((next_of h).said ≡ end_said) × ((next_of h).cursor ≡ h)
@@ -49,6 +47,6 @@ presses_rest g h k xs s p =
     (presses_yield h k [] xs (still_ended g h y s.cursor).0 p, stays h k xs (still_ended g h y s.cursor) p)
 
 -- from `new_legal`, whatever it answers: n presses yield the first n of the board's sequence, and the end behind them
-pub whole_pressed : (b : RetractableBoard) (m : Made) → Makes (list_tests b) (cursor_on b) m → m.verdict ≡ nothing_refused → (k : RetractionGen) (xs : List (Option ChessRetraction))
-    → Presses m.cursor xs k → xs ≡ answers_of (length xs) (sequence_on b)
-whole_pressed b m made e k xs p = presses_yield m.cursor k (sequence_on b) xs (whole_sequence b m made e) p
+pub whole_pressed : (b : RetractableBoard) (g : RetractionGen) → Makes (list_tests b) (cursor_on b) (Ok g) → (k : RetractionGen) (xs : List (Option ChessRetraction))
+    → Presses g xs k → xs ≡ answers_of (length xs) (sequence_on b)
+whole_pressed b g made k xs p = presses_yield g k (sequence_on b) xs (whole_sequence b g made) p

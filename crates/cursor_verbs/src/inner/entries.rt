@@ -1,19 +1,16 @@
 // The masks and the entries of a cursor, put into an answer.
 ghost use Rattle.puts.specs.inner.Growing.{Grows};
 
-use retraction_gen::{Made, Masks, RetractionGen};
+use refusal::Refusal;
+use retraction_gen::RetractionGen;
 use retraction_list::{SourceAndTargets, UnCaptureKind};
 
-pub(super) fn put_made(m: Made, out: &mut [u8; 65536]) -> usize
+pub(super) fn put_made(made: Result<RetractionGen, Refusal>, out: &mut [u8; 65536]) -> usize
     ensures { Grows 0 result }
 {
-    let v = m.verdict;
-    match v {
+    match made {
+        Ok(g) => put_cursor(g, out),
         Err(r) => puts::inner::refused(r, out),
-        Ok(()) => {
-            let g = m.cursor;
-            put_cursor(g, out)
-        }
     }
 }
 
@@ -63,15 +60,11 @@ fn mark(unpromotion: bool) -> u8 {
     if unpromotion { b'=' } else { b'.' }
 }
 
-pub(super) fn put_masks(m: Masks, out: &mut [u8; 65536]) -> usize
+pub(super) fn put_masks(masks: Result<[u64; 6], Refusal>, out: &mut [u8; 65536]) -> usize
     ensures { Grows 0 result }
 {
-    let v = m.verdict;
-    match v {
+    match masks {
+        Ok(masks) => puts::inner::sets(out, 0, masks),
         Err(r) => puts::inner::refused(r, out),
-        Ok(()) => {
-            let masks = m.masks;
-            puts::inner::sets(out, 0, masks)
-        }
     }
 }

@@ -2,19 +2,16 @@
 ghost use Rattle.puts.specs.inner.Growing.{Grows};
 
 use laws::ChessRetraction;
-use retraction_gen::{Made, RetractionGen};
+use refusal::Refusal;
+use retraction_gen::RetractionGen;
 
 // What each press of a board's cursor yields, packed, up to the third end.
-pub(super) fn put(lent: bool, m: Made, out: &mut [u8; 65536]) -> usize
+pub(super) fn put(lent: bool, made: Result<RetractionGen, Refusal>, out: &mut [u8; 65536]) -> usize
     ensures { Grows 0 result }
 {
-    let v = m.verdict;
-    match v {
+    match made {
+        Ok(g) => put_presses(lent, g, out),
         Err(r) => puts::inner::refused(r, out),
-        Ok(()) => {
-            let g = m.cursor;
-            put_presses(lent, g, out)
-        }
     }
 }
 

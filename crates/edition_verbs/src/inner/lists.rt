@@ -12,12 +12,9 @@ pub(super) fn put_ported(t: &[u64; 4096], b: RetractableBoard, out: &mut [u8; 65
     requires { IsBetween t.now }
     ensures { Grows 0 result }
 {
-    let made = RetractionGen::new_legal(b);
-    let v = made.verdict;
-    match v {
+    match RetractionGen::new_legal(b) {
         Err(r) => puts::inner::refused(r, out),
-        Ok(()) => {
-            let g = made.cursor;
+        Ok(g) => {
             let mut slots = [0u16; 8192];
             let l = listing::inner::retractions_into(t, b, &mut slots);
             put_listed(l, g.len, &slots, out)

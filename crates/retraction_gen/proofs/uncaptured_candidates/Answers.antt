@@ -1,12 +1,12 @@
 -- `retraction_gen::uncaptured_candidates` meets its contract.
-use mathlib.Core.Path.{refl}
+use Rattle.refusal.proofs.Saying.{handed_on}
 use Rattle.retraction_gen.specs.Making.{masks_on}
 use Rattle.retraction_gen.proofs.Gated.{masked_refused, masked_on}
 use Rattle.retraction_gen.proofs.uncaptured_candidates.Goals as goal
 
-pub returns-in-Err : goal.returns-in-Err
-returns-in-Err c = masked_refused _ _ c.gate-v.ensures _ _ c.in-Err.is (refl, refl)
+pub returns-in_err-gate : goal.returns-in_err-gate
+returns-in_err-gate c = masked_refused _ _ c.gate.ensures _ _ c.in_err-gate.was (handed_on _ _ c.from_residual.ensures.1)
 
-pub returns-in-Ok : goal.returns-in-Ok
+pub returns : goal.returns
 unfolding masks_on
-returns-in-Ok c = masked_on _ _ c.gate-v.ensures _ c.in-Ok.is (refl, rw c.position_of.ensures at c.candidates-masks.ensures)
+returns c = masked_on _ _ c.gate.ensures c.in_ok-gate.was (rw c.position_of.ensures at c.candidates.ensures)
