@@ -19,33 +19,31 @@ use Rattle.text.specs.Entries.{Reads as ReadsText, said, unsaid}
 use Rattle.text.proofs.RoundTrip.{read_one as text_one}
 use Rattle.turning.specs.Turned.{turned_on}
 use Rattle.records.specs.declared.Why.{Why}
-use Rattle.records.specs.declared.Outcome.TheVariants.{Taken, Refused as notTaken}
-use Rattle.records.specs.declared.Recorded.{Recorded}
-use Rattle.records.specs.Entries.{why_number, outcome_number, Reads}
+use Rattle.records.specs.declared.Record.{Record}
+use Rattle.records.specs.Entries.{why_number, Reads}
 use Rattle.records.proofs.RoundTrip.{read_one}
-use Rattle.records.proofs.Giving.{some_why}
 use Rattle.reply.specs.Replies.{refused_text, Shows, AnswersBoard, listed_then}
-use Rattle.reply.proofs.Spoken.{line_refused, shows_one, answers_one}
-use Rattle.record_reply.specs.Answers.{state_number, record_text, sent_number, Replies, Sends}
-use Rattle.std.specs.Prelude.{Err}
+use Rattle.reply.proofs.Spoken.{shows_one, answers_one}
+use Rattle.record_reply.specs.Answers.{state_number, record_text, sent_number, AnswersRead, Replies, Sends}
+use Rattle.std.specs.Prelude.{Result, Ok, Err}
 
 -- a record that is read is answered
-module _ (v : Edition) (t : List ℕ) (r : Recorded) (a : Reads v t r) {n : ℕ} {o out p q : List ℕ} where
-  pub reply_refused : (why : Why) → r.outcome ≡ notTaken why → (x : ℕ) → x ≡ why_number why → Shows (refused_text x) n o out → Replies v t n o out p p q q
-  reply_refused why e x i s =
-      let w = line_refused r.board (some_why why) (ap outcome_number e) (subst (λ (z : ℕ). Shows (refused_text z) n o out) i s) in
-      record { read = r; reads = a; answers = w.0; slots = w.1 }
+module _ (v : Edition) (t : List ℕ) (a : Result Record Why) (k : Reads v t a) {n : ℕ} {o out p q : List ℕ} where
+  pub reply_refused : (why : Why) → a ≡ Err why → (x : ℕ) → x ≡ why_number why → Shows (refused_text x) n o out → Replies v t n o out p p q q
+  reply_refused why e x i s = record { read = a; reads = k; answers = rw e (subst (λ (z : ℕ). Shows (refused_text z) n o out) i s, refl, refl) }
 
-  pub reply_taken : r.outcome ≡ Taken → {listed strict : List ℕ} → AnswersBoard 0 r.board n o out q strict × (listed ≡ listed_then 0 r.board p)
+  pub reply_taken : (r : Record) → a ≡ Ok r → {listed strict : List ℕ} → AnswersBoard 0 r.board n o out q strict × (listed ≡ listed_then 0 r.board p)
       → Replies v t n o out p listed q strict
-  reply_taken e s = record { read = r; reads = a; answers = rw e s.0; slots = rw e s.1 }
+  reply_taken r e s = record { read = a; reads = k; answers = rw e s }
 
 -- there is one answer to a record: its bytes, all of the buffer and of both slots
 pub reply_one : (v : Edition) (t : List ℕ) (n m : ℕ) (o x y p l k q s u : List ℕ) → Replies v t n o x p l q s → Replies v t m o y p k q u → (n ≡ m) × (x ≡ y) × (l ≡ k) × (s ≡ u)
 reply_one v t n m o x y p l k q s u a b =
-    let e : b.read ≡ a.read = read_one v t b.read a.read b.reads a.reads in
-    let h = answers_one a.answers (subst (λ (r : Recorded). AnswersBoard (outcome_number r.outcome) r.board m o y q u) e b.answers) in
-    (h.0, h.1, a.slots ∙ sym (ap (λ (r : Recorded). listed_then (outcome_number r.outcome) r.board p) e) ∙ sym b.slots, h.2)
+    by a.read a.answers (subst (λ (r : Result Record Why). AnswersRead r m o y p k q u) (read_one v t b.read a.read b.reads a.reads) b.answers)
+  where
+    by : (r : Result Record Why) → AnswersRead r n o x p l q s → AnswersRead r m o y p k q u → (n ≡ m) × (x ≡ y) × (l ≡ k) × (s ≡ u)
+    by (Ok r) c d = let h = answers_one c.0 d.0 in (h.0, h.1, c.1 ∙ sym d.1, h.2)
+    by (Err why) c d = let h = shows_one refl c.0 d.0 in (h.0, h.1, c.1 ∙ sym d.1, c.2 ∙ sym d.2)
 
 -- a text that is read is sent out
 module _ (t : List ℕ) (r : Boarded) (a : ReadsText A t r) (h k : ℕ) {n : ℕ} {o out : List ℕ} where

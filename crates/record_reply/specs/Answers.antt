@@ -1,5 +1,5 @@
 -- What is answered to a record that a person gives, and to a text that a person sends out.
-use Rattle.std.specs.Prelude.{◌≡◌, cond, List, [], ◌∷◌, ◌++◌, ℕ, eqb}
+use Rattle.std.specs.Prelude.{◌≡◌, cond, List, [], ◌∷◌, ◌++◌, ℕ, eqb, Result, Ok, Err}
 use Rattle.laws.specs.declared.Edition.{Edition}
 use Rattle.laws.specs.declared.Edition.TheVariants.{A, B}
 use Rattle.refusal.specs.Refusals.{verdict_number}
@@ -8,9 +8,10 @@ use Rattle.board.specs.declared.Boarded.{Boarded}
 use Rattle.text.specs.Entries.{Reads as ReadsText}
 use Rattle.turning.specs.Turned.{turned_on}
 use Rattle.record_fields.specs.Passed.{is_known}
-use Rattle.records.specs.declared.Recorded.{Recorded}
+use Rattle.records.specs.declared.Record.{Record}
+use Rattle.records.specs.declared.Why.{Why}
 use Rattle.records.specs.declared.Why.TheVariants.{Unknown}
-use Rattle.records.specs.Entries.{why_number, outcome_number, Reads, record_on}
+use Rattle.records.specs.Entries.{why_number, Reads, record_on}
 use Rattle.reply.specs.Replies.{newline, refused_text, Shows, AnswersBoard, listed_then}
 
 -- "the caller chooses", and is told: `edition A` or `edition B`
@@ -21,12 +22,16 @@ edition_letter B = 66
 abbrev pub edition_text : Edition → List ℕ
 edition_text v = 101 ∷ 100 ∷ 105 ∷ 116 ∷ 105 ∷ 111 ∷ 110 ∷ 32 ∷ edition_letter v ∷ 10 ∷ []
 
+-- what was read is answered: the board as a text's, or the refusal's number alone, and then no slot is written
+abbrev pub AnswersRead : Result Record Why → (n : ℕ) (o out p listed q strict : List ℕ) → Type 0
+AnswersRead (Ok r) n o out p listed q strict = AnswersBoard 0 r.board n o out q strict × (listed ≡ listed_then 0 r.board p)
+AnswersRead (Err why) n o out p listed q strict = Shows (refused_text (why_number why)) n o out × (listed ≡ p) × (strict ≡ q)
+
 -- the record t is answered, read in the edition v: as a text is, but that its reader's numbers are 14, 15 and 1 to 6
 pub record Replies (v : Edition) (t : List ℕ) (n : ℕ) (o out p listed q strict : List ℕ) : Type 0 where
-  pub read : Recorded
+  pub read : Result Record Why
   pub reads : Reads v t read
-  pub answers : AnswersBoard (outcome_number read.outcome) read.board n o out q strict
-  pub slots : listed ≡ listed_then (outcome_number read.outcome) read.board p
+  pub answers : AnswersRead read n o out p listed q strict
 
 -- "16 UNKNOWN when the writer .. meets an unknown state"
 abbrev pub state_number : RetractableBoard → ℕ

@@ -5,7 +5,6 @@ ghost use Rattle.reply.specs.Replies.{Shows};
 ghost use Rattle.record_reply.specs.Answers.{edition_text, Replies, Sends};
 
 use laws::Edition;
-use records::Outcome;
 
 pub mod inner; // inner.rt: the record of a board, and a newline
 
@@ -30,14 +29,9 @@ pub fn reply(
     ensures { Replies edition line.now result out.old out.new listed.old listed.new strict.old strict.new }
 {
     let t = tables::between_table();
-    let r = records::inner::read(&t, line, edition);
-    let outcome = r.outcome;
-    match outcome {
-        Outcome::Refused(why) => reply::inner::put_number(records::number(why), out),
-        Outcome::Taken => {
-            let board = r.board;
-            reply::inner::put_board(&t, board, listed, strict, out)
-        }
+    match records::inner::read(&t, line, edition) {
+        Err(why) => reply::inner::put_number(records::number(why), out),
+        Ok(r) => reply::inner::put_board(&t, r.board, listed, strict, out),
     }
 }
 

@@ -7,12 +7,10 @@ use native.Mathlib.Omega.{arith}
 use lib.ListN.{length, take, drop}
 use lib.Seq.{take-length}
 use borrow.Author.Tests.{lt-ltb, le-ltb, leb-true}
-use Rattle.squares.specs.Tests.{◌and◌}
 use Rattle.squares.proofs.Testing.{left, right}
 use Rattle.laws.specs.declared.Edition.{Edition}
 use Rattle.laws.specs.declared.Position.{Position}
 use Rattle.refusal.specs.declared.Refusal.TheVariants.{Text}
-use Rattle.board.specs.Gate.{no_board}
 use Rattle.board.specs.Answers.{worked_of}
 use Rattle.position_text.specs.declared.Form.{Form}
 use Rattle.position_text.specs.declared.Form.TheVariants.{InForm, OutOfForm}
@@ -29,18 +27,20 @@ use Rattle.record_fields.proofs.Counters.{min_range}
 use Rattle.record_fields.proofs.Splits.{Free, free_decimal, not_free, cut_one, free_part, cut_part, free_whole}
 use Rattle.record_fields.proofs.Pawns.{pawn_back, pawn_known, never_unknown}
 use Rattle.records.specs.declared.Why.TheVariants.{Base}
-use Rattle.records.specs.declared.Recorded.{Recorded}
+use Rattle.records.specs.declared.Why.{Why}
+use Rattle.records.specs.declared.Record.{Record}
 use Rattle.records.specs.Form.{Says}
-use Rattle.records.specs.Entries.{number_for, Gives, Reads, said, unsaid}
-use Rattle.records.specs.inner.Answering.{with_state, passed_fields, no_record, record_said, answer_by, answer_of}
-use Rattle.records.proofs.Giving.{gives_refused, gives_said}
+use Rattle.records.specs.Entries.{outcome_number, number_for, Gives, Reads, said, unsaid}
+use Rattle.records.specs.inner.Answering.{with_state, passed_fields, record_said, answer_by, answer_of}
+use Rattle.records.proofs.Giving.{gives_said}
 use Rattle.records.proofs.Parts.{four_said, said_parts, parts_said}
+use Rattle.std.specs.Prelude.{Result, Err}
 
 -- the two cases, from what the code makes
-says_nothing : (ed : Edition) (t : List ℕ) (r : Recorded) → ((f : Position) (h n : ℕ) → Says ed f h n t → ⊥) → r ≡ no_record (Base Text) → Reads ed t r
-says_nothing ed t r z e = unsaid z (subst (Gives 14 no_board 0 0) (sym e) (gives_refused (Base Text) no_board 0 0 refl))
+says_nothing : (ed : Edition) (t : List ℕ) (r : Result Record Why) → ((f : Position) (h n : ℕ) → Says ed f h n t → ⊥) → r ≡ Err (Base Text) → Reads ed t r
+says_nothing ed t r z e = unsaid z (ap outcome_number e)
 
-says_so : (ed : Edition) (t : List ℕ) (r : Recorded) (f : Position) (h n : ℕ) → Says ed f h n t → r ≡ record_said f h n → Reads ed t r
+says_so : (ed : Edition) (t : List ℕ) (r : Result Record Why) (f : Position) (h n : ℕ) → Says ed f h n t → r ≡ record_said f h n → Reads ed t r
 says_so ed t r f h n s e = said f h n s (subst (Gives (number_for f h n) (worked_of f) h n) (sym e) (gives_said f h n))
 
 -- the answer is the same where counters above the range are read as 10,000
@@ -57,17 +57,17 @@ min_said f h n = go (in_range h n) refl
     go false e = rw (min_range h n, e)
 
 -- a counter that is none
-pub over_half : (raw : Raw) (h n : ℕ) → 10000 < h → answer_of raw h n ≡ no_record (Base Text)
+pub over_half : (raw : Raw) (h n : ℕ) → 10000 < h → answer_of raw h n ≡ Err (Base Text)
 over_half raw h n l = rw (lt-ltb 10000 h l)
 
 -- the answer, from what the parts gave
-module _ (ed : Edition) (t a m b : List ℕ) (cut : t ≡ (a ++ (32 ∷ m)) ++ (32 ∷ b)) (fm : Free m) (fb : Free b) (raw : Raw) (x y : ℕ) (r : Recorded)
+module _ (ed : Edition) (t a m b : List ℕ) (cut : t ≡ (a ++ (32 ∷ m)) ++ (32 ∷ b)) (fm : Free m) (fb : Free b) (raw : Raw) (x y : ℕ) (r : Result Record Why)
     (four : Answers ed a raw) (res : r ≡ answer_of raw x y) where
   abbrev pawned : Position
   pawned = with_state raw.position (pawn_state raw.position.passant)
 
   known_in : (h n : ℕ) → decimal_of h ≡ m → decimal_of n ≡ b → FourSays ed raw.position a → (v : Bool) → is_known (pawn_state raw.position.passant) ≡ v
-      → r ≡ cond v (record_said pawned (min h 10000) (min n 10000)) (no_record (Base Text)) → Reads ed t r
+      → r ≡ cond v (record_said pawned (min h 10000) (min n 10000)) (Err (Base Text)) → Reads ed t r
   known_in h n d e s true q w =
       let k = pawn_known raw.position.passant q in
       let z : passed_fields pawned ≡ raw.position = ap (with_state raw.position) k.1 in
@@ -92,8 +92,8 @@ module _ (ed : Edition) (t a m b : List ℕ) (cut : t ≡ (a ++ (32 ∷ m)) ++ (
       (res ∙ (rw (le-ltb 10000 x (omega (arith, i)), le-ltb 10000 y (omega (arith, j)))) ∙ ap₂ (answer_by raw.form raw.position) i j)
 
 -- j and i are the places behind the last space and the one before it
-module _ (ed : Edition) (t : List ℕ) (j : ℕ) (c : Cut t (length t) j) (r : Recorded) where
-  pub no_space : j ≡ 0 → r ≡ no_record (Base Text) → Reads ed t r
+module _ (ed : Edition) (t : List ℕ) (j : ℕ) (c : Cut t (length t) j) (r : Result Record Why) where
+  pub no_space : j ≡ 0 → r ≡ Err (Base Text) → Reads ed t r
   no_space e w =
       let f : Free t = subst Free (take-length t) (free_whole t (length t) j (omega arith) c e) in
       says_nothing ed t r (λ g h n s. not_free (printed (passed_fields g)) (decimal_of h ++ (32 ∷ decimal_of n)) (subst Free (sym s.text) f)) w
@@ -102,7 +102,7 @@ module _ (ed : Edition) (t : List ℕ) (j : ℕ) (c : Cut t (length t) j) (r : R
   last_field h = sym (take-length t) ∙ cut_part t (length t) j (omega arith) c h
 
   module _ (i : ℕ) (z : 0 < j) (d : Cut t (j - 1) i) where
-    pub one_space : i ≡ 0 → r ≡ no_record (Base Text) → Reads ed t r
+    pub one_space : i ≡ 0 → r ≡ Err (Base Text) → Reads ed t r
     one_space e w =
         let k : j - 1 ≤ length t = omega (arith, c.inside) in
         let f : Free (take (j - 1) t) = free_whole t (j - 1) i k d e in

@@ -20,12 +20,10 @@ use Rattle.record_fields.specs.Counters.{in_range}
 use Rattle.record_fields.specs.Passed.{is_known}
 use Rattle.records.specs.declared.Why.{Why}
 use Rattle.records.specs.declared.Why.TheVariants.{Base, Counter, Unknown}
-use Rattle.records.specs.declared.Outcome.{Outcome}
-use Rattle.records.specs.declared.Outcome.TheVariants.{Taken, Refused as notTaken}
-use Rattle.records.specs.declared.Recorded.{Recorded}
-use Rattle.records.specs.Entries.{why_number, outcome_number, number_for, Gives}
-use Rattle.records.specs.inner.Answering.{no_record, taken, recorded_by, record_said, known_said}
-use Rattle.std.specs.Prelude.{Ok, Err}
+use Rattle.records.specs.declared.Record.{Record}
+use Rattle.records.specs.Entries.{why_number, taken, number_for, Gives}
+use Rattle.records.specs.inner.Answering.{recorded_by, record_said, known_said}
+use Rattle.std.specs.Prelude.{Result, Ok, Err, IsErrAnd, MatchResult, ⊤}
 
 pub verdict_low : (v : Verdict) → verdict_number v ≤ 14
 verdict_low (Ok _) = omega arith
@@ -51,51 +49,56 @@ some_why Unknown = refl
 pub no_why : (w : Why) → why_number w ≡ 0 → ⊥
 no_why w h = eqb-false (why_number w) 0 (some_why w) h
 
-outcome_one : (o p : Outcome) → outcome_number o ≡ outcome_number p → o ≡ p
-outcome_one Taken Taken h = refl
-outcome_one Taken (notTaken v) h = absurd (no_why v (sym h))
-outcome_one (notTaken w) Taken h = absurd (no_why w h)
-outcome_one (notTaken w) (notTaken v) h = ap notTaken (why_one w v h)
-
 -- any two answers agree
-pub gives_one : {x h n : ℕ} {b : RetractableBoard} (r q : Recorded) → Gives x b h n r → Gives x b h n q → r ≡ q
-gives_one r q k l = λ i. record {
-  outcome = outcome_one r.outcome q.outcome (k.number ∙ sym l.number) i;
-  board = (k.board ∙ sym l.board) i;
-  half = (k.half ∙ sym l.half) i;
-  full = (k.full ∙ sym l.full) i;
-}
+pub gives_one : {x h n : ℕ} {b : RetractableBoard} (r q : Result Record Why) → Gives x b h n r → Gives x b h n q → r ≡ q
+gives_one (Ok r) (Ok q) k l = k.given (sym k.number) ∙ sym (l.given (sym l.number))
+gives_one (Ok r) (Err v) k l = absurd (no_why v (l.number ∙ sym k.number))
+gives_one (Err w) (Ok q) k l = absurd (no_why w (k.number ∙ sym l.number))
+gives_one (Err w) (Err v) k l = ap Err (why_one w v (k.number ∙ sym l.number))
 
 -- a refusal
-pub gives_refused : {x : ℕ} (w : Why) (b : RetractableBoard) (h n : ℕ) → why_number w ≡ x → Gives x b h n (no_record w)
-gives_refused w b h n e =
-    subst (λ (y : ℕ). Gives y b h n (no_record w)) e (record { number = refl; board = rw (some_why w); half = rw (some_why w); full = rw (some_why w) })
+gives_refused : {x : ℕ} (w : Why) (b : RetractableBoard) (h n : ℕ) → why_number w ≡ x → Gives x b h n (Err w)
+gives_refused w b h n e = record { number = e; given = λ z. absurd (no_why w (e ∙ z)) }
 
 -- by the verdict on the position
 gives_by : (x : ℕ) (v : Verdict) (b : RetractableBoard) (h n : ℕ) → verdict_number v ≡ x → Gives x b h n (recorded_by v (kept_by v b) h n)
-gives_by x (Ok _) b h n e = subst (λ (y : ℕ). Gives y b h n (taken b h n)) e (record { number = refl; board = refl; half = refl; full = refl })
+gives_by x (Ok _) b h n e = record { number = e; given = λ _. refl }
 gives_by x (Err r) b h n e = gives_refused (Base r) b h n e
 
 -- 15, then 1 to 6
 pub gives_said : (f : Position) (h n : ℕ) → Gives (number_for f h n) (worked_of f) h n (record_said f h n)
 gives_said f h n = go (in_range h n)
   where
-    go : (t : Bool) → Gives (cond t (first_failing (raw_tests f)) (why_number Counter)) (worked_of f) h n (cond t (recorded_by (judged_of f) (kept_by (judged_of f) (worked_of f)) h n) (no_record Counter))
+    go : (t : Bool) → Gives (cond t (first_failing (raw_tests f)) (why_number Counter)) (worked_of f) h n (cond t (recorded_by (judged_of f) (kept_by (judged_of f) (worked_of f)) h n) (Err Counter))
     go true = gives_by (first_failing (raw_tests f)) (judged_of f) (worked_of f) h n (judged_number f)
     go false = gives_refused Counter (worked_of f) h n refl
 
-pub said_is : (f : Position) (h n : ℕ) (r : Recorded) → Gives (number_for f h n) (worked_of f) h n r → r ≡ record_said f h n
+pub said_is : (f : Position) (h n : ℕ) (r : Result Record Why) → Gives (number_for f h n) (worked_of f) h n r → r ≡ record_said f h n
 said_is f h n r g = gives_one r (record_said f h n) g (gives_said f h n)
+
+-- the verdict on the position, its refusals as those of a record
+abbrev OfBase : Verdict → Result ⊤ Why → Type 0
+OfBase v m = MatchResult v (λ z. m ≡ Ok z) (λ r. IsErrAnd m (λ w. w ≡ Base r))
+
+pub let_by : (v : Verdict) (b : RetractableBoard) (h n : ℕ) {m : Result ⊤ Why} {z : ⊤} → OfBase v m → m ≡ Ok z → taken b h n ≡ recorded_by v b h n
+let_by (Ok _) b h n x e = refl
+let_by (Err r) b h n x e = absurd (subst (λ q. IsErrAnd q (λ w. w ≡ Base r)) e x)
+
+pub handed_by : (v : Verdict) (b : RetractableBoard) (h n : ℕ) {m : Result ⊤ Why} {w : Why} → OfBase v m → m ≡ Err w → (r : Result Record Why) → IsErrAnd r (λ u. u ≡ w)
+    → r ≡ recorded_by v b h n
+handed_by (Ok z) b h n x e r k = absurd (subst (λ (q : Result ⊤ Why). IsErrAnd q (λ _. ⊤)) (sym e ∙ x) tt)
+handed_by (Err why) b h n x e (Ok a) k = absurd k
+handed_by (Err why) b h n x e (Err u) k = ap Err (k ∙ subst (λ q. IsErrAnd q (λ w. w ≡ Base why)) e x)
 
 -- what the code answers, by its tests
 module _ (f : Position) (h n : ℕ) where
-  pub out_of_range : in_range h n ≡ false → no_record Counter ≡ record_said f h n
+  pub out_of_range : in_range h n ≡ false → Err Counter ≡ record_said f h n
   out_of_range e = rw e
 
   pub within_range : in_range h n ≡ true → recorded_by (new_of f).verdict (new_of f).board h n ≡ record_said f h n
   within_range e = rw e
 
-  pub not_known : is_known f.passant ≡ false → no_record (Base text) ≡ known_said f h n
+  pub not_known : is_known f.passant ≡ false → Err (Base text) ≡ known_said f h n
   not_known e = rw e
 
   pub is_known_lem : is_known f.passant ≡ true → record_said f h n ≡ known_said f h n

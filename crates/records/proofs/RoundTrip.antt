@@ -8,8 +8,6 @@ use native.Mathlib.Omega.{arith}
 use lib.ListN.{length, take, drop}
 use lib.Seq.{take_at}
 use borrow.Author.Tests.{eqb-true, leb-true}
-use Rattle.squares.specs.Squares.{rank}
-use Rattle.squares.specs.Tests.{◌and◌}
 use Rattle.squares.proofs.Testing.{left, right}
 use Rattle.geometry.specs.Colors.{opp, rank_for}
 use Rattle.geometry.specs.declared.Color.{Color}
@@ -28,7 +26,7 @@ use Rattle.accept.specs.Verdicts.{judged_of, raw_tests}
 use Rattle.accept.proofs.Numbered.{judged_number, judged_passes}
 use Rattle.board.specs.declared.RetractableBoard.{RetractableBoard}
 use Rattle.board.specs.declared.Boarded.{Boarded}
-use Rattle.board.specs.Gate.{position_on, men_on, gate_of, board_tests, kept_by}
+use Rattle.board.specs.Gate.{position_on, men_on, gate_of, board_tests}
 use Rattle.board.specs.Answers.{worked_of}
 use Rattle.board.proofs.Passing.{gate_sound, gate_judged}
 use Rattle.board.proofs.Numbers.{gate_passes, passed_gate}
@@ -37,28 +35,35 @@ use Rattle.record_fields.specs.Counters.{in_range}
 use Rattle.record_fields.specs.Passed.{StateNamed, is_known}
 use Rattle.record_fields.proofs.Counters.{four_long}
 use Rattle.record_fields.proofs.Pawns.{named_known}
-use Rattle.records.specs.declared.Outcome.TheVariants.{Taken}
-use Rattle.records.specs.declared.Recorded.{Recorded}
+use Rattle.records.specs.declared.Why.{Why}
+use Rattle.records.specs.declared.Record.{Record}
 use Rattle.records.specs.Form.{Says}
-use Rattle.records.specs.Entries.{outcome_number, number_for, Reads, said, unsaid, record_on, WritesRecord}
-use Rattle.records.specs.inner.Answering.{taken, recorded_by, record_said}
-use Rattle.records.proofs.Giving.{verdict_low, gives_one, said_is, within_range}
+use Rattle.records.specs.Entries.{outcome_number, taken, number_for, Reads, said, unsaid, record_on, WritesRecord}
+use Rattle.records.specs.inner.Answering.{recorded_by, record_said}
+use Rattle.records.proofs.Giving.{verdict_low, why_one, said_is, within_range}
 use Rattle.records.proofs.Parts.{says_same}
 use Rattle.records.proofs.Writing.{record_length}
 use Rattle.records.proofs.Saying.{writes_known}
-use Rattle.refusal.specs.Refusals.{Verdict, nothing_refused}
+use Rattle.refusal.specs.Refusals.{nothing_refused}
+use Rattle.std.specs.Prelude.{Result, Ok, Err}
 
 same_said : (ed : Edition) (t : List ℕ) (f g : Position) (h n k m : ℕ) → Says ed f h n t → Says ed g k m t → record_said f h n ≡ record_said g k m
 same_said ed t f g h n k m s u = let w = says_same ed t f g h n k m s u in λ i. record_said (w.0 i) (w.1 i) (w.2 i)
 
+-- 14 is one answer
+text_one : (a b : Result Record Why) → outcome_number a ≡ 14 → outcome_number b ≡ 14 → a ≡ b
+text_one (Ok r) b e d = absurd (omega (arith, e))
+text_one (Err w) (Ok q) e d = absurd (omega (arith, d))
+text_one (Err w) (Err v) e d = ap Err (why_one w v (e ∙ sym d))
+
 -- any two answers to a text that the contract allows are the same
-pub read_one : (ed : Edition) (t : List ℕ) (a b : Recorded) → Reads ed t a → Reads ed t b → a ≡ b
+pub read_one : (ed : Edition) (t : List ℕ) (a b : Result Record Why) → Reads ed t a → Reads ed t b → a ≡ b
 read_one ed t a b (said f h n s e) (said g k m u d) = said_is f h n a e ∙ same_said ed t f g h n k m s u ∙ sym (said_is g k m b d)
 read_one ed t a b (said f h n s e) (unsaid z d) = absurd (z f h n s)
 read_one ed t a b (unsaid z e) (said f h n s d) = absurd (z f h n s)
-read_one ed t a b (unsaid z e) (unsaid y d) = gives_one a b e d
+read_one ed t a b (unsaid z e) (unsaid y d) = text_one a b e d
 
-read_said : (ed : Edition) (t : List ℕ) (r : Recorded) (f : Position) (h n : ℕ) → Reads ed t r → Says ed f h n t → r ≡ record_said f h n
+read_said : (ed : Edition) (t : List ℕ) (r : Result Record Why) (f : Position) (h n : ℕ) → Reads ed t r → Says ed f h n t → r ≡ record_said f h n
 read_said ed t r f h n (said g k m u e) s = said_is g k m r e ∙ same_said ed t g f k m h n u s
 read_said ed t r f h n (unsaid z e) s = absurd (z f h n s)
 
@@ -78,12 +83,12 @@ never_counter f h n = go (in_range h n)
     go false e = refl
 
 -- 14 exactly where the text says nothing
-pub text_exactly : (ed : Edition) (t : List ℕ) (r : Recorded) → Reads ed t r → (outcome_number r.outcome ≡ 14) ↔ ((f : Position) (h n : ℕ) → Says ed f h n t → ⊥)
+pub text_exactly : (ed : Edition) (t : List ℕ) (r : Result Record Why) → Reads ed t r → (outcome_number r ≡ 14) ↔ ((f : Position) (h n : ℕ) → Says ed f h n t → ⊥)
 text_exactly ed t r (said f h n s e) = (
   (λ k. absurd (never_text f h n (sym e.number ∙ k))),
   (λ z. absurd (z f h n s)),
 )
-text_exactly ed t r (unsaid z e) = ((λ _. z), (λ _. e.number))
+text_exactly ed t r (unsaid z e) = ((λ _. z), (λ _. e))
 
 -- the text says counters out of range
 pub record SaysBeyond (ed : Edition) (t : List ℕ) : Type 0 where
@@ -94,7 +99,7 @@ pub record SaysBeyond (ed : Edition) (t : List ℕ) : Type 0 where
   pub beyond : in_range half full ≡ false
 
 -- "15 COUNTER after 14": exactly where the text is in form and a counter is out of range
-pub counter_exactly : (ed : Edition) (t : List ℕ) (r : Recorded) → Reads ed t r → (outcome_number r.outcome ≡ 15) ↔ SaysBeyond ed t
+pub counter_exactly : (ed : Edition) (t : List ℕ) (r : Result Record Why) → Reads ed t r → (outcome_number r ≡ 15) ↔ SaysBeyond ed t
 counter_exactly ed t r (said f h n s e) = (
   (λ k. record { position = f; half = h; full = n; says = s; beyond = never_counter f h n (sym e.number ∙ k) }),
   (λ b.
@@ -103,7 +108,7 @@ counter_exactly ed t r (said f h n s e) = (
       e.number ∙ rw q),
 )
 counter_exactly ed t r (unsaid z e) = (
-  (λ k. absurd (omega (arith, e.number))),
+  (λ k. absurd (omega (arith, e))),
   (λ b. absurd (z b.position b.half b.full b.says)),
 )
 
@@ -127,14 +132,14 @@ module _ (b : RetractableBoard) (six : length b.pieces ≡ 6) (two : length b.co
     text = refl;
   }
 
-  pub read_record : gate_of b ≡ nothing_refused → is_known b.passant ≡ true → in_range h n ≡ true → (r : Recorded) → Reads b.terms.edition (record_on b h n) r → r ≡ taken b h n
+  pub read_record : gate_of b ≡ nothing_refused → is_known b.passant ≡ true → in_range h n ≡ true → (r : Result Record Why) → Reads b.terms.edition (record_on b h n) r → r ≡ taken b h n
   read_record g k i r a =
       read_said b.terms.edition (record_on b h n) r (position_on b) h n a (record_said_lem g k) ∙ sym (within_range (position_on b) h n i)
       ∙ ap (λ (x : Boarded). recorded_by x.verdict x.board h n) (board_said b six two bp bc g)
 
   -- read after write: what was written, with counters in range, is read as the board and the counters
   pub read_after_write : (o after : List ℕ) (m : ℕ) → WritesRecord (board_tests b) b.passant (record_on b h n) o (told (m ∷ [])) after → in_range h n ≡ true
-      → (r : Recorded) → Reads b.terms.edition (take m after) r → r ≡ taken b h n
+      → (r : Result Record Why) → Reads b.terms.edition (take m after) r → r ≡ taken b h n
   read_after_write o after m w i r a =
       let k = writes_known m after w in
       let v = tells_count k.1 m refl in
@@ -142,38 +147,39 @@ module _ (b : RetractableBoard) (six : length b.pieces ≡ 6) (two : length b.co
       read_record (passed_gate b v.passed) k.0 i r (subst (λ (t : List ℕ). Reads b.terms.edition t r) e a)
 
 -- a record that is taken
-pub record Took (ed : Edition) (t : List ℕ) (r : Recorded) : Type 0 where
+pub record Took (ed : Edition) (t : List ℕ) (r : Record) : Type 0 where
   pub gate : gate_of r.board ≡ nothing_refused
   pub known : is_known r.board.passant ≡ true
   pub range : in_range r.half r.full ≡ true
   pub text : record_on r.board r.half r.full ≡ t
 
-took_said : (ed : Edition) (t : List ℕ) (f : Position) (h n : ℕ) → Says ed f h n t → in_range h n ≡ true → judged_of f ≡ nothing_refused → Took ed t (taken (worked_of f) h n)
+took_said : (ed : Edition) (t : List ℕ) (f : Position) (h n : ℕ) → Says ed f h n t → in_range h n ≡ true → judged_of f ≡ nothing_refused
+    → Took ed t (record { board = worked_of f; half = h; full = n })
 took_said ed t f h n s i j = record { gate = gate_worked f j; known = named_known f.passant s.state; range = i; text = s.text }
 
-pub took : (ed : Edition) (t : List ℕ) (r : Recorded) → Reads ed t r → r.outcome ≡ Taken → Took ed t r
-took ed t r (unsaid z e) o = absurd (omega (arith, sym e.number ∙ ap outcome_number o))
-took ed t r (said f h n s e) o = go (in_range h n) refl (sym e.number ∙ ap outcome_number o)
+pub took : (ed : Edition) (t : List ℕ) (r : Record) → Reads ed t (Ok r) → Took ed t r
+took ed t r (unsaid z e) = absurd (omega (arith, e))
+took ed t r (said f h n s e) = go (in_range h n) refl (sym e.number)
   where
     go : (x : Bool) → in_range h n ≡ x → cond x (first_failing (raw_tests f)) 15 ≡ 0 → Took ed t r
     go true i k =
         let j : judged_of f ≡ nothing_refused = verdict_one (judged_of f) nothing_refused (judged_number f ∙ k) in
-        let d : r ≡ taken (worked_of f) h n = said_is f h n r e ∙ sym (within_range f h n i) ∙ ap (λ (v : Verdict). recorded_by v (kept_by v (worked_of f)) h n) j in
+        let d : r ≡ record { board = worked_of f; half = h; full = n } = cc (e.given (sym e.number)) in
         subst (Took ed t) (sym d) (took_said ed t f h n s i j)
     go false i k = absurd (omega arith)
 
 -- write after read gives the bytes: what writing the board and its counters answers, and leaves in a slice, is what copying t does
-pub write_after_read : (ed : Edition) (t : List ℕ) (r : Recorded) → Reads ed t r → r.outcome ≡ Taken → (o after : List ℕ) (x : Said)
+pub write_after_read : (ed : Edition) (t : List ℕ) (r : Record) → Reads ed t (Ok r) → (o after : List ℕ) (x : Said)
     → WritesRecord (board_tests r.board) r.board.passant (record_on r.board r.half r.full) o x after → Writes [] t o x after
-write_after_read ed t r a h o after x w =
-    let k = took ed t r a h in
+write_after_read ed t r a o after x w =
+    let k = took ed t r a in
     let v : Writes (board_tests r.board) (record_on r.board r.half r.full) o x after = record { answer = w.answer ∙ rw k.known; holds = w.holds } in
     subst (λ (s : List ℕ). Writes [] s o x after) k.text (writes_passed (gate_passes r.board (gate_of r.board) refl k.gate) v)
 
 -- a record that is taken has at most 91 bytes
-pub taken_short : (ed : Edition) (t : List ℕ) (r : Recorded) → Reads ed t r → r.outcome ≡ Taken → length t ≤ 91
-taken_short ed t r a o =
-    let k = took ed t r a o in
+pub taken_short : (ed : Edition) (t : List ℕ) (r : Record) → Reads ed t (Ok r) → length t ≤ 91
+taken_short ed t r a =
+    let k = took ed t r a in
     let p = leb-true r.half 9999 (left _ _ (left _ _ k.range)) in
     let q = leb-true r.full 9999 (right _ _ k.range) in
     subst (λ (l : List ℕ). length l ≤ 91) k.text

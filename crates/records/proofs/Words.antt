@@ -12,13 +12,15 @@ use Rattle.record_fields.specs.Passed.{PassedOver}
 use Rattle.record_fields.specs.inner.Pawns.{pawn_state}
 use Rattle.record_fields.proofs.Counters.{words_number, number_words}
 use Rattle.record_fields.proofs.Pawns.{pawn_known, over_named, named_over}
-use Rattle.records.specs.declared.Recorded.{Recorded}
+use Rattle.records.specs.declared.Why.{Why}
+use Rattle.records.specs.declared.Record.{Record}
 use Rattle.records.specs.Form.{Says}
 use Rattle.records.specs.Grammar.{Formed}
 use Rattle.records.specs.Entries.{outcome_number, Reads}
 use Rattle.records.specs.inner.Answering.{with_state, passed_fields}
 use Rattle.records.proofs.Parts.{four_said, parts_said}
 use Rattle.records.proofs.RoundTrip.{text_exactly}
+use Rattle.std.specs.Prelude.{Result}
 
 -- what says a position and counters has the form
 pub says_formed : (ed : Edition) (t : List ℕ) (f : Position) (h n : ℕ) → Says ed f h n t → Formed t
@@ -63,7 +65,7 @@ formed_says ed t w =
     }
 
 -- the reader's 14, in the request's words: exactly where the text has not the form
-pub formed_exactly : (ed : Edition) (t : List ℕ) (r : Recorded) → Reads ed t r → (outcome_number r.outcome ≡ 14) ↔ (Formed t → ⊥)
+pub formed_exactly : (ed : Edition) (t : List ℕ) (r : Result Record Why) → Reads ed t r → (outcome_number r ≡ 14) ↔ (Formed t → ⊥)
 formed_exactly ed t r a = (
   (λ e w. let d = formed_says ed t w in (text_exactly ed t r a).0 e d.position d.half d.full d.says),
   (λ z. (text_exactly ed t r a).1 (λ f h n s. z (says_formed ed t f h n s))),

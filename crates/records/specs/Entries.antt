@@ -8,15 +8,13 @@ use Rattle.refusal.specs.Refusals.{number_of}
 use Rattle.refusal.specs.Said.{Test, first_failing, Said, says, number_said, told, fitting, behind}
 use Rattle.accept.specs.Verdicts.{raw_tests}
 use Rattle.board.specs.declared.RetractableBoard.{RetractableBoard}
-use Rattle.board.specs.Gate.{position_on, no_board}
+use Rattle.board.specs.Gate.{position_on}
 use Rattle.board.specs.Answers.{worked_of}
 use Rattle.record_fields.specs.Counters.{in_range}
 use Rattle.record_fields.specs.Passed.{is_known}
 use Rattle.records.specs.declared.Why.{Why}
 use Rattle.records.specs.declared.Why.TheVariants.{Base, Counter, Unknown}
-use Rattle.records.specs.declared.Outcome.{Outcome}
-use Rattle.records.specs.declared.Outcome.TheVariants.{Taken, Refused as notTaken}
-use Rattle.records.specs.declared.Recorded.{Recorded}
+use Rattle.records.specs.declared.Record.{Record}
 use Rattle.records.specs.declared.Unwritten.{Unwritten}
 use Rattle.records.specs.Form.{record_of, Says}
 use Rattle.records.specs.declared.Unwritten.TheVariants.{Room, Refused as notWritten}
@@ -28,25 +26,27 @@ why_number Counter = 15
 why_number Unknown = 16
 
 -- 0 where nothing is refused
-abbrev pub outcome_number : Outcome → ℕ
-outcome_number Taken = 0
-outcome_number (notTaken w) = why_number w
+abbrev pub outcome_number : Result Record Why → ℕ
+outcome_number (Ok _) = 0
+outcome_number (Err w) = why_number w
+
+-- a board and its counters
+abbrev pub taken : RetractableBoard → ℕ → ℕ → Result Record Why
+taken b h n = Ok (record { board = b; half = h; full = n })
 
 -- "15 COUNTER after 14", and then 1 to 6: the number for a record that says f, h and n
 abbrev pub number_for : Position → ℕ → ℕ → ℕ
 number_for f h n = cond (in_range h n) (first_failing (raw_tests f)) (why_number Counter)
 
--- the number x, where it is 0 beside b, h and n; "A refusal writes nothing and returns no board": else beside the empty board, 0 and 0
-pub record Gives (x : ℕ) (b : RetractableBoard) (h n : ℕ) (r : Recorded) : Type 0 where
-  pub number : outcome_number r.outcome ≡ x
-  pub board : r.board ≡ cond (eqb x 0) b no_board
-  pub half : r.half ≡ cond (eqb x 0) h 0
-  pub full : r.full ≡ cond (eqb x 0) n 0
+-- the number x, and b, h and n where it is 0; "A refusal writes nothing and returns no board": else nothing
+pub record Gives (x : ℕ) (b : RetractableBoard) (h n : ℕ) (r : Result Record Why) : Type 0 where
+  pub number : outcome_number r ≡ x
+  pub given : x ≡ 0 → r ≡ taken b h n
 
 -- the board of the position that the text says in the caller's edition, and its counters, through 15 and 1 to 6; or 14 where it says none
-pub data Reads (v : Edition) (t : List ℕ) (r : Recorded) : Type 0 where
+pub data Reads (v : Edition) (t : List ℕ) (r : Result Record Why) : Type 0 where
   said : (f : Position) (h n : ℕ) → Says v f h n t → Gives (number_for f h n) (worked_of f) h n r → Reads v t r
-  unsaid : ((f : Position) (h n : ℕ) → Says v f h n t → ⊥) → Gives (number_of text) no_board 0 0 r → Reads v t r
+  unsaid : ((f : Position) (h n : ℕ) → Says v f h n t → ⊥) → outcome_number r ≡ number_of text → Reads v t r
 
 -- the record of a board
 abbrev pub record_on : RetractableBoard → ℕ → ℕ → List ℕ

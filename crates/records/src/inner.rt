@@ -5,10 +5,10 @@ ghost use Rattle.geometry.specs.Lines.{IsBetween};
 ghost use Rattle.refusal.specs.Said.{Writes};
 ghost use Rattle.records.specs.Form.{record_of};
 ghost use Rattle.records.specs.Entries.{Reads, record_on, written_says, WritesRecord};
-ghost use Rattle.records.specs.inner.Answering.{with_state, no_record, recorded_by, record_said, known_said, answer_of};
+ghost use Rattle.records.specs.inner.Answering.{with_state, record_said, known_said, answer_of};
 
-use super::{Outcome, Recorded, Unwritten, Why};
-use board::{Boarded, RetractableBoard};
+use super::{Record, Unwritten, Why};
+use board::RetractableBoard;
 use laws::{Edition, EnPassantFlag, Position};
 use position_text::{Form, Raw};
 use record_fields::inner::{count, in_range, is_known, last, passed_state, pawn_state};
@@ -20,75 +20,51 @@ fn with_state(p: Position, passant: EnPassantFlag) -> Position
     Position { passant, ..p }
 }
 
-fn no_record(why: Why) -> Recorded
-    ensures { result ≡ no_record why }
-{
-    let board = board::no_board();
-    Recorded {
-        outcome: Outcome::Refused(why),
-        board,
-        half: 0,
-        full: 0,
-    }
-}
-
-fn recorded(b: Boarded, half: u16, full: u16) -> Recorded
-    ensures { result ≡ recorded_by b.verdict b.board half full }
-{
-    let v = b.verdict;
-    match v {
-        Ok(()) => {
-            let board = b.board;
-            Recorded {
-                outcome: Outcome::Taken,
-                board,
-                half,
-                full,
-            }
-        }
-        Err(r) => no_record(Why::Base(r)),
-    }
-}
-
 // 15, and then 1 to 6.
-fn ranged(t: &[u64; 4096], p: Position, half: u16, full: u16) -> Recorded
+fn ranged(t: &[u64; 4096], p: Position, half: u16, full: u16) -> Result<Record, Why>
     requires { IsBetween t.now }
     ensures { result ≡ record_said p half full }
 {
     if !in_range(half, full) {
-        return no_record(Why::Counter);
+        return Err(Why::Counter);
     }
-    recorded(board::inner::board_from(t, p), half, full)
+    let b = board::inner::board_from(t, p);
+    b.verdict.map_err(Why::Base)?;
+    Ok(Record {
+        board: b.board,
+        half,
+        full,
+    })
 }
 
 // The same, behind 14 where no pawn passed over what is named.
 #[tactic(auto, using(crate::proofs::Giving::not_known, crate::proofs::Giving::is_known_lem))]
-fn known(t: &[u64; 4096], p: Position, half: u16, full: u16) -> Recorded
+fn known(t: &[u64; 4096], p: Position, half: u16, full: u16) -> Result<Record, Why>
     requires { IsBetween t.now }
     ensures { result ≡ known_said p half full }
 {
     let pawn = p.passant;
     if !is_known(pawn) {
-        return no_record(Why::Base(Refusal::Text));
+        return Err(Why::Base(Refusal::Text));
     }
     ranged(t, p, half, full)
 }
 
 // What is answered to a text whose four fields are `raw` and whose counters are read as `half` and `full`.
 #[tactic(auto, using(crate::proofs::Answering::over_half))]
-fn answer(t: &[u64; 4096], raw: Raw, half: u16, full: u16) -> Recorded
+fn answer(t: &[u64; 4096], raw: Raw, half: u16, full: u16) -> Result<Record, Why>
     requires { IsBetween t.now }
     ensures { result ≡ answer_of raw half full }
 {
     if 10000 < half {
-        return no_record(Why::Base(Refusal::Text));
+        return Err(Why::Base(Refusal::Text));
     }
     if 10000 < full {
-        return no_record(Why::Base(Refusal::Text));
+        return Err(Why::Base(Refusal::Text));
     }
     let form = raw.form;
     match form {
-        Form::OutOfForm => no_record(Why::Base(Refusal::Text)),
+        Form::OutOfForm => Err(Why::Base(Refusal::Text)),
         Form::InForm => {
             let p = raw.position;
             let passed = p.passant;
@@ -99,19 +75,19 @@ fn answer(t: &[u64; 4096], raw: Raw, half: u16, full: u16) -> Recorded
 }
 
 // A board and its counters from a record: it is cut at its last two spaces. `t` is the table of squares between, lent.
-pub fn read(t: &[u64; 4096], text: &[u8], edition: Edition) -> Recorded
+pub fn read(t: &[u64; 4096], text: &[u8], edition: Edition) -> Result<Record, Why>
     requires { IsBetween t.now }
     ensures { Reads edition text.now result }
 {
     let n = text.len();
     let j = last(text, n);
     if j == 0 {
-        return no_record(Why::Base(Refusal::Text));
+        return Err(Why::Base(Refusal::Text));
     }
     let k = j - 1;
     let i = last(text, k);
     if i == 0 {
-        return no_record(Why::Base(Refusal::Text));
+        return Err(Why::Base(Refusal::Text));
     }
     let e = i - 1;
     let raw = position_text::inner::read_raw(&text[..e], edition);

@@ -20,16 +20,9 @@ pub enum Why {
     Unknown,
 }
 
+// A board from a record, with its counters.
 #[derive(Drop)]
-pub enum Outcome {
-    Taken,
-    Refused(Why),
-}
-
-// A board from a record, with its counters: the empty board, 0 and 0 beside a refusal.
-#[derive(Drop)]
-pub struct Recorded {
-    pub outcome: Outcome,
+pub struct Record {
     pub board: RetractableBoard,
     pub half: u16,
     pub full: u16,
@@ -54,7 +47,7 @@ pub fn number(why: Why) -> u8
 }
 
 // A board and its counters from a record, which the caller reads in an edition: refusal 14, then 15, then 1 to 6.
-pub fn read(text: &[u8], edition: Edition) -> Recorded
+pub fn read(text: &[u8], edition: Edition) -> Result<Record, Why>
     ensures { Reads edition text.now result }
 {
     let t = tables::between_table();

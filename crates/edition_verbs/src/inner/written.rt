@@ -2,21 +2,19 @@
 ghost use Rattle.puts.specs.inner.Growing.{Grows};
 
 use board::RetractableBoard;
-use records::{Outcome, Recorded, Unwritten};
+use records::{Record, Unwritten, Why};
 use refusal::Refusal;
 
 // The text and both counters, tabs between.
-pub(super) fn put_read(r: Recorded, out: &mut [u8; 65536]) -> usize
+pub(super) fn put_read(r: Result<Record, Why>, out: &mut [u8; 65536]) -> usize
     ensures { Grows 0 result }
 {
-    let outcome = r.outcome;
-    match outcome {
-        Outcome::Refused(why) => puts::inner::refused_by(out, 0, records::number(why)),
-        Outcome::Taken => {
-            let b = r.board;
-            let text = board_field::inner::put_text(b, out, 0);
-            let half = put_counter(out, text, r.half);
-            put_counter(out, half, r.full)
+    match r {
+        Err(why) => puts::inner::refused_by(out, 0, records::number(why)),
+        Ok(record) => {
+            let text = board_field::inner::put_text(record.board, out, 0);
+            let half = put_counter(out, text, record.half);
+            put_counter(out, half, record.full)
         }
     }
 }

@@ -1,5 +1,5 @@
 -- What the reader makes of its parts, by which the code comes to what `Reads` says.
-use Rattle.std.specs.Prelude.{cond, ℕ, ltb, Ok, Err}
+use Rattle.std.specs.Prelude.{cond, ℕ, ltb, Ok, Err, Result}
 use Rattle.laws.specs.declared.EnPassantFlag.{EnPassantFlag}
 use Rattle.laws.specs.declared.Position.{Position}
 use Rattle.record_fields.specs.Counters.{in_range}
@@ -7,15 +7,14 @@ use Rattle.record_fields.specs.Passed.{passed_state, is_known}
 use Rattle.record_fields.specs.inner.Pawns.{pawn_state}
 use Rattle.refusal.specs.declared.Refusal.TheVariants.{Text}
 use Rattle.board.specs.declared.RetractableBoard.{RetractableBoard}
-use Rattle.board.specs.Gate.{no_board}
 use Rattle.board.specs.inner.Gates.{new_of}
 use Rattle.position_text.specs.declared.Form.{Form}
 use Rattle.position_text.specs.declared.Form.TheVariants.{InForm, OutOfForm}
 use Rattle.position_text.specs.declared.Raw.{Raw}
 use Rattle.records.specs.declared.Why.{Why}
 use Rattle.records.specs.declared.Why.TheVariants.{Base, Counter}
-use Rattle.records.specs.declared.Outcome.TheVariants.{Taken, Refused as notTaken}
-use Rattle.records.specs.declared.Recorded.{Recorded}
+use Rattle.records.specs.declared.Record.{Record}
+use Rattle.records.specs.Entries.{taken}
 use Rattle.refusal.specs.Refusals.{Verdict}
 
 -- a position with another state
@@ -26,28 +25,23 @@ with_state p e = record { pieces = p.pieces; colors = p.colors; turn = p.turn; w
 abbrev pub passed_fields : Position → Position
 passed_fields p = with_state p (passed_state p.passant)
 
-abbrev pub no_record : Why → Recorded
-no_record w = record { outcome = notTaken w; board = no_board; half = 0; full = 0 }
-
-abbrev pub taken : RetractableBoard → ℕ → ℕ → Recorded
-taken b h n = record { outcome = Taken; board = b; half = h; full = n }
-
-abbrev pub recorded_by : Verdict → RetractableBoard → ℕ → ℕ → Recorded
+-- the verdict on the position
+abbrev pub recorded_by : Verdict → RetractableBoard → ℕ → ℕ → Result Record Why
 recorded_by (Ok _) b h n = taken b h n
-recorded_by (Err r) b h n = no_record (Base r)
+recorded_by (Err r) b h n = Err (Base r)
 
 -- 15, then 1 to 6
-abbrev pub record_said : Position → ℕ → ℕ → Recorded
-record_said f h n = cond (in_range h n) (recorded_by (new_of f).verdict (new_of f).board h n) (no_record Counter)
+abbrev pub record_said : Position → ℕ → ℕ → Result Record Why
+record_said f h n = cond (in_range h n) (recorded_by (new_of f).verdict (new_of f).board h n) (Err Counter)
 
 -- 14 first, where the state is unknown
-abbrev pub known_said : Position → ℕ → ℕ → Recorded
-known_said f h n = cond (is_known f.passant) (record_said f h n) (no_record (Base Text))
+abbrev pub known_said : Position → ℕ → ℕ → Result Record Why
+known_said f h n = cond (is_known f.passant) (record_said f h n) (Err (Base Text))
 
-abbrev pub answer_by : Form → Position → ℕ → ℕ → Recorded
-answer_by OutOfForm p h n = no_record (Base Text)
+abbrev pub answer_by : Form → Position → ℕ → ℕ → Result Record Why
+answer_by OutOfForm p h n = Err (Base Text)
 answer_by InForm p h n = known_said (with_state p (pawn_state p.passant)) h n
 
 -- and before that, where the form or a counter is not one
-abbrev pub answer_of : Raw → ℕ → ℕ → Recorded
-answer_of raw h n = cond (ltb 10000 h) (no_record (Base Text)) (cond (ltb 10000 n) (no_record (Base Text)) (answer_by raw.form raw.position h n))
+abbrev pub answer_of : Raw → ℕ → ℕ → Result Record Why
+answer_of raw h n = cond (ltb 10000 h) (Err (Base Text)) (cond (ltb 10000 n) (Err (Base Text)) (answer_by raw.form raw.position h n))

@@ -1,8 +1,0 @@
--- `records::inner::recorded` meets its contract.
-use Rattle.records.proofs.inner.recorded.Goals as goal
-
-pub returns-in-Ok : goal.returns-in-Ok
-returns-in-Ok c = rw c.in-Ok.is
-
-pub returns-in-Err : goal.returns-in-Err
-returns-in-Err c = rw (c.in-Err.is, c.no_record.ensures)
