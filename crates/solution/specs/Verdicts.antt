@@ -53,7 +53,7 @@ pub record Checks (e : Edition) (t s : List ℕ) (a : Result Checked Why) : Type
   pub reads : Reads e t read
   pub told : TellsOf read.verdict read.board (lines_of s) a
 
--- what is not in form is not judged
+-- why lines that are not in form are not judged
 abbrev pub why_of : Unformed → Why
 why_of (formLine k) = Line k
 why_of formMany = Many

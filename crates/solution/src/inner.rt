@@ -54,7 +54,7 @@ fn verdict(t: &[u64; 4096], p: Position, lines: &[u8]) -> Checked
     let mut seen = [0u64; 768];
     let mut at = 0;
     let mut n = 0;
-    // No `for`: `at` goes from line to line as in `form_of`, and the lemmas of solution_lines/proofs/Walking.antt serve both.
+    // No `for` over the lines that may stand, as in `form_of`: that there are no more is known by `TellsForm` alone.
     while at < lines.len() {
         let stop = chunks::inner::find(lines, at, lines.len());
         let r = solution_lines::inner::read_line(&lines[at..stop]);
