@@ -165,13 +165,14 @@ impl RetractableBoard {
     }
 
     // Whether a man of a colour attacks a square: refusals 1 to 7, then 9.
-    pub fn is_attacked(self, sq: u8, color: Color) -> AttackTold
+    pub fn is_attacked(mut self, sq: u8, color: Color) -> AttackTold
         ensures { Tells (ask_tests self sq) (attacked_says (Ok (attacked (men_on self) color sq))) self (attacked_says result.answer) result.board }
     {
         let z = self.attackers(sq, color);
+        self = z.board;
         AttackTold {
             answer: told(z.answer),
-            board: z.board,
+            board: self,
         }
     }
 

@@ -99,8 +99,5 @@ fn of_strict(b: RetractableBoard) -> u64 {
 }
 
 fn of_listed(answer: Result<usize, Unlisted>) -> u64 {
-    of(answer.map_err(|why| match why {
-        Unlisted::Room(_) => Refusal::Room,
-        Unlisted::Refused(r) => r,
-    }))
+    of(answer.map_err(Refusal::from))
 }

@@ -2,6 +2,7 @@
 use Rattle.std.specs.Prelude.{List, [], ◌∷◌, ℕ, ◌+◌, set, Err, Ok, Result}
 use Rattle.laws.specs.declared.ChessRetraction.{ChessRetraction}
 use Rattle.laws.specs.Retractions.{packed}
+use Rattle.refusal.specs.declared.Refusal.{Refusal}
 use Rattle.refusal.specs.declared.Refusal.TheVariants.{Room as room}
 use Rattle.refusal.specs.Refusals.{number_of}
 use Rattle.refusal.specs.Said.{Said, says, told, refusal}
@@ -13,6 +14,11 @@ abbrev pub listed_says : Result ℕ Unlisted → Said
 listed_says (Ok n) = told (n ∷ [])
 listed_says (Err (Room n)) = says (number_of room) (n ∷ [])
 listed_says (Err (Refused why)) = refusal why
+
+-- why nothing is written, as a refusal: 13 where there is no room
+abbrev pub refusal_of : Unlisted → Refusal
+refusal_of (Room n) = room
+refusal_of (Refused why) = why
 
 -- a list that is written slot after slot from n on
 unfoldable pub fill_from : List ℕ → ℕ → List ChessRetraction → List ℕ

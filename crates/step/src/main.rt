@@ -11,7 +11,6 @@ use presses::Presses;
 use refusal::Refusal;
 use retraction_gen::RetractionGen;
 use screen::Screen;
-use slots::Unlisted;
 use std::env::FillError;
 use std::io::{ErrorKind, Input, IsTerminal};
 use std::rt::Env;
@@ -113,11 +112,8 @@ fn open(t: &[u64; 4096], text: &[u8], strict: &mut [u16; 8192]) -> Result<Opened
         listed: 0,
         strict: 0,
     };
-    match strict::inner::strict_into(t, board, strict) {
-        Ok(strict) => Ok(Opened { screen, strict }),
-        Err(Unlisted::Room(_)) => Err(Refusal::Room),
-        Err(Unlisted::Refused(why)) => Err(why),
-    }
+    let strict = strict::inner::strict_into(t, board, strict)?;
+    Ok(Opened { screen, strict })
 }
 
 // A press after the other, up to the end of the list or to `q`; false where nothing more is to be read, or can be written.

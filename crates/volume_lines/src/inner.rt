@@ -55,8 +55,8 @@ pub fn survey(t: &[u8], count: usize, before: Named) -> Survey
         if stop == t.len() {
             return Survey {
                 count: n,
-                named: named,
-                at: at,
+                named,
+                at,
                 good: true,
             };
         }
@@ -64,8 +64,8 @@ pub fn survey(t: &[u8], count: usize, before: Named) -> Survey
         if let Form::OutOfForm = raw.form {
             return Survey {
                 count: n,
-                named: named,
-                at: at,
+                named,
+                at,
                 good: false,
             };
         }
@@ -75,8 +75,8 @@ pub fn survey(t: &[u8], count: usize, before: Named) -> Survey
     }
     Survey {
         count: n,
-        named: named,
-        at: at,
+        named,
+        at,
         good: true,
     }
 }

@@ -37,7 +37,7 @@ fn put_presses(lent: bool, mut g: RetractionGen, out: &mut [u8; 65536]) -> usize
 fn ends_with(answer: Option<ChessRetraction>, ends: u8) -> u8 {
     match answer {
         Some(_) => 0,
-        None => if ends < 3 { ends + 1 } else { 3 },
+        None => ends.saturating_add(1).min(3),
     }
 }
 

@@ -29,15 +29,7 @@ pub(super) fn put_strict(t: &[u64; 4096], b: RetractableBoard, out: &mut [u8; 65
 {
     let mut slots = [0u16; 8192];
     let l = strict::inner::strict_into(t, b, &mut slots);
-    put_listed(l, counted(l), &slots, out)
-}
-
-fn counted(l: Result<usize, Unlisted>) -> usize {
-    match l {
-        Ok(n) => n,
-        Err(Unlisted::Room(_)) => 0,
-        Err(Unlisted::Refused(_)) => 0,
-    }
+    put_listed(l, l.unwrap_or(0), &slots, out)
 }
 
 fn put_listed(
@@ -53,8 +45,7 @@ fn put_listed(
             let len = puts::inner::number(out, 0, first as u64);
             put_members(slots, n, out, len)
         }
-        Err(Unlisted::Room(_)) => puts::inner::refused(Refusal::Room, out),
-        Err(Unlisted::Refused(r)) => puts::inner::refused(r, out),
+        Err(why) => puts::inner::refused(Refusal::from(why), out),
     }
 }
 

@@ -3,7 +3,7 @@ use Rattle.std.proofs.Common.{arith}
 use Rattle.slots.proofs.Telling.{listing_tells}
 use Rattle.step.proofs.open.Goals as goal
 
-pub returns-in-Ok : goal.returns-in-Ok
-returns-in-Ok c =
-    let w = listing_tells c.strict_into.ensures.moves _ c.strict_into.ensures.into _ c.in-Ok.is in
+pub returns : goal.returns
+returns c =
+    let w = listing_tells c.strict_into.ensures.moves _ c.strict_into.ensures.into _ c.in_ok-strict_into.was in
     omega (arith, w.size, w.fits)
