@@ -5,5 +5,5 @@ use Rattle.step.proofs.open.Goals as goal
 
 pub returns : goal.returns
 returns c =
-    let w = listing_tells c.strict_into.ensures.moves _ c.strict_into.ensures.into _ c.in_ok-strict_into.was in
+    let w = listing_tells c.strict_into.ensures.moves _ c.strict_into.ensures.into _ c.in_ok-strict.was in
     omega (arith, w.size, w.fits)
