@@ -9,9 +9,9 @@ pub fn byte(line: &[u8], at: usize) -> u8 {
     if at < line.len() { line[at] } else { b'\n' }
 }
 
-// The line begins with a word.
+// The line begins with a word. Behind its end it has newlines.
 pub fn starts(line: &[u8], word: &[u8]) -> bool {
-    line.starts_with(word)
+    word.iter().enumerate().all(|(i, b)| byte(line, i) == *b)
 }
 
 // The place of the next `sep`, or the line's end; a place past that stays.

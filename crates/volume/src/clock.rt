@@ -41,9 +41,10 @@ impl<'a, R: time::Clock + Eprint> Clock<'a, R> {
     }
 
     // The sign goes.
-    pub(super) fn stop(&self) {
+    pub(super) fn stop(&mut self) {
         if self.is_shown {
             let _ = eprint!(self.rt; "\r\x1b[K");
+            self.is_shown = false;
         }
     }
 }

@@ -75,6 +75,8 @@ fn write(
     let mut sink = Sink::to_file(file, out);
     let put = put_all(back, f, n, chunk, &mut sink, clock);
     let is_kept = keep(sink);
+    // The sign goes before the file gets its name.
+    clock.stop();
     if put.is_ok() && is_kept && fs::rename(rt, part, target).is_ok() {
         keep_name(rt, target.as_bytes());
         return Ok(());

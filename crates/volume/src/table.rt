@@ -40,7 +40,7 @@ pub(super) fn walk(
         f.fill(6 + 8 * i, rows, 8 * k)?;
         last = match volume_contents::inner::walk(rows, 0, k, all, i, last, back) {
             Ok(of_last) => of_last,
-            Err((flaw, row)) => {
+            Err((flaw, row, _)) => {
                 return Err(Fault::Refused(Why::Contents(flaw, i + row + 1)));
             }
         };

@@ -107,7 +107,7 @@ pub fn entry(v: &[u8], at: usize) -> Entry
 }
 
 // Tests `rows` rows that stand in `s` from `at` on: of a table of n rows those from `from` on, the number before them being `last`. Answers the number of the
-// last row, or how the first that is not sound fails, and how many stand before it.
+// last row, or how the first that is not sound fails, how many stand before it, and the number of the last of these.
 pub fn walk(
     s: &[u8],
     at: usize,
@@ -116,7 +116,7 @@ pub fn walk(
     from: usize,
     last: usize,
     back: bool,
-) -> Result<usize, (Flaw, usize)>
+) -> Result<usize, (Flaw, usize, usize)>
     requires { (at < 65536) × (from + rows ≤ n) × (n < 65536) }
     ensures { WalksTo back n from last s.now at rows result }
 {
@@ -124,7 +124,7 @@ pub fn walk(
     for j in 0..rows {
         let e = entry(s, at + 8 * j);
         if let Err(flaw) = tests::row(e, n, from + j, before, back) {
-            return Err((flaw, j));
+            return Err((flaw, j, before));
         }
         before = e.number;
     }

@@ -28,8 +28,8 @@ tested_same back v n i = (λ k. row_tested back n (z k) (last_same v i k) (row_a
     z = omega arith
 
 module _ (back : Bool) (v : List ℕ) (n : ℕ) (h : head_tested v (length v) ≡ Ok tt) (c : n ≡ problems v) where
-  pub table_spoilt : (f : Flaw) (j : ℕ) → WalksTo back n 0 0 v 6 n (Err (f, j)) → Untabled back v (Contents f (j + 1))
-  table_spoilt f j s = flawed f (j + 1) (subst (λ (k : ℕ). Spoilt back v k f) (sym (add-one j)) (row j f h (omega (arith, s.1)) (λ i g. at i (s.0 i g)) (at j s.2)))
+  pub table_spoilt : (f : Flaw) (j l : ℕ) → WalksTo back n 0 0 v 6 n (Err (f, j, l)) → Untabled back v (Contents f (j + 1))
+  table_spoilt f j l s = flawed f (j + 1) (subst (λ (k : ℕ). Spoilt back v k f) (sym (add-one j)) (row j f h (omega (arith, s.1)) (λ i g. at i (s.0 i g)) (at j s.2)))
     where
       at : {t : Tested} (i : ℕ) → tested_in back n 0 0 v 6 i ≡ t → tested_at back v (problems v) i ≡ t
       at i q = ap (λ (k : ℕ). tested_at back v k i) (sym c) ∙ sym (tested_same back v n i) ∙ q

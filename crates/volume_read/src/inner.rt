@@ -18,7 +18,7 @@ pub fn contents(v: &[u8], back: bool) -> Result<usize, Why>
         return Err(Why::Contents(flaw, 0));
     }
     let n = volume_contents::inner::problems(v);
-    if let Err((flaw, i)) = volume_contents::inner::walk(v, 6, n, n, 0, 0, back) {
+    if let Err((flaw, i, _)) = volume_contents::inner::walk(v, 6, n, n, 0, 0, back) {
         return Err(Why::Contents(flaw, i + 1));
     }
     Ok(n)

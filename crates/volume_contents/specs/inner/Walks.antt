@@ -26,10 +26,11 @@ tested_in back n from last s at j = row_tested back n (from + j) (last_in last s
 abbrev pub SoundTo : Bool → ℕ → ℕ → ℕ → List ℕ → ℕ → ℕ → Type 0
 SoundTo back n from last s at j = (i : ℕ) → i < j → tested_in back n from last s at i ≡ Ok tt
 
--- all k rows are sound, and the last has a number; or the first that is not has a flaw, and a place
-abbrev pub WalksTo : Bool → ℕ → ℕ → ℕ → List ℕ → ℕ → ℕ → Result ℕ (Flaw × ℕ) → Type 0
+-- all k rows are sound, and the last has a number; or the first that is not has a flaw and a place, and the row before it a number
+abbrev pub WalksTo : Bool → ℕ → ℕ → ℕ → List ℕ → ℕ → ℕ → Result ℕ (Flaw × ℕ × ℕ) → Type 0
 WalksTo back n from last s at k (Ok r) = SoundTo back n from last s at k × (r ≡ last_in last s at k)
-WalksTo back n from last s at k (Err f) = SoundTo back n from last s at f.1 × (f.1 < k) × (tested_in back n from last s at f.1 ≡ Err f.0)
+WalksTo back n from last s at k (Err f) =
+    SoundTo back n from last s at f.1 × (f.1 < k) × (tested_in back n from last s at f.1 ≡ Err f.0) × (f.2 ≡ last_in last s at f.1)
 
 -- the numbers of k rows rise
 abbrev pub Rising : List ℕ → ℕ → ℕ → Type 0
