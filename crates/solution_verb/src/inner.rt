@@ -18,16 +18,25 @@ pub fn answer(line: &[u8], out: &mut [u8; 65536]) -> usize
     put_verdict(checked(fields::inner::text(line, at), &room, n), out)
 }
 
-// What stands behind the tab at a place, each field with a newline behind it: the last one's is what `byte` reads at the line's end. Where the
-// line ends there is no tab, and so no field. No line of `ask` outgrows the room.
+// What stands behind the tab at a place, each field with a newline behind it. Where the line ends there is no tab, and so no field. No line of `ask` outgrows
+// the room.
 fn take_lines(line: &[u8], tab: usize, room: &mut [u8; 65536]) -> usize
     ensures { result ≤ 65536 }
 {
-    let n = line.len().saturating_sub(tab).min(65536);
-    for i in 0..n {
-        room[i] = ended(fields::inner::byte(line, tab + 1 + i));
+    if tab >= line.len() {
+        return 0;
     }
-    n
+    let lines = &line[tab + 1..];
+    let n = lines.len().min(65536);
+    room[..n].copy_from_slice(&lines[..n]);
+    for b in &mut room[..n] {
+        *b = ended(*b);
+    }
+    if n == 65536 {
+        return n;
+    }
+    room[n] = b'\n';
+    n + 1
 }
 
 // Where a tab ends a field, a newline ends a line.
