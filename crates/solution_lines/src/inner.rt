@@ -52,6 +52,8 @@ pub fn read_line(l: &[u8]) -> ChessRetraction
 pub fn is_formed(l: &[u8]) -> bool
     ensures { (result ≡ true) ↔ Says (leniently l.now) l.now }
 {
-    let fields = rows::inner::fields_of(read_line(l));
-    l == &fields[..]
+    let Ok(line) = <[u8; 8]>::try_from(l) else {
+        return false;
+    };
+    line == rows::inner::fields_of(read_line(l))
 }
